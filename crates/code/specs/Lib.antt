@@ -1,0 +1,6 @@
+-- The definitions and promises of this crate.
+-- Assumes nothing.
+pub mod Limits
+pub mod Code
+pub mod Scope
+pub mod Claims

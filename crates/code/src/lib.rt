@@ -1,0 +1,337 @@
+// The byte code of terms: what each byte does to the balance, and where a term ends.
+// The empty functions at the end carry the promises of specs/Claims.antt.
+ghost use mathlib.Core.Path.{_≡_};
+ghost use Prim.Native.Nat.{_≤_};
+ghost use lib.ListN.{length};
+ghost use Rattle.code.specs.Limits.{longestFile};
+ghost use Rattle.code.specs.Code.{Tabled, delta, termEnd, endOf};
+ghost use Rattle.code.specs.Scope.{Scopes};
+ghost use Rattle.code.specs.Claims.{Inverse, Sizes, Balance, Examples};
+
+// Where a term ends: the place past its last byte, or never, where the bytes end before the term does or it starts past them.
+pub enum End {
+    At(usize),
+    Never,
+}
+
+// What each byte does to the balance: -1 for a terminal, 1 for an applicator or an abstractor.
+const TABLE: [i32; 256] = [
+    -1, // 00: tau
+    -1, // 01 to fd: the variables
+    -1,
+    -1,
+    -1,
+    -1,
+    -1,
+    -1,
+    -1,
+    -1,
+    -1,
+    -1,
+    -1,
+    -1,
+    -1,
+    -1,
+    -1,
+    -1,
+    -1,
+    -1,
+    -1,
+    -1,
+    -1,
+    -1,
+    -1,
+    -1,
+    -1,
+    -1,
+    -1,
+    -1,
+    -1,
+    -1,
+    -1,
+    -1,
+    -1,
+    -1,
+    -1,
+    -1,
+    -1,
+    -1,
+    -1,
+    -1,
+    -1,
+    -1,
+    -1,
+    -1,
+    -1,
+    -1,
+    -1,
+    -1,
+    -1,
+    -1,
+    -1,
+    -1,
+    -1,
+    -1,
+    -1,
+    -1,
+    -1,
+    -1,
+    -1,
+    -1,
+    -1,
+    -1,
+    -1,
+    -1,
+    -1,
+    -1,
+    -1,
+    -1,
+    -1,
+    -1,
+    -1,
+    -1,
+    -1,
+    -1,
+    -1,
+    -1,
+    -1,
+    -1,
+    -1,
+    -1,
+    -1,
+    -1,
+    -1,
+    -1,
+    -1,
+    -1,
+    -1,
+    -1,
+    -1,
+    -1,
+    -1,
+    -1,
+    -1,
+    -1,
+    -1,
+    -1,
+    -1,
+    -1,
+    -1,
+    -1,
+    -1,
+    -1,
+    -1,
+    -1,
+    -1,
+    -1,
+    -1,
+    -1,
+    -1,
+    -1,
+    -1,
+    -1,
+    -1,
+    -1,
+    -1,
+    -1,
+    -1,
+    -1,
+    -1,
+    -1,
+    -1,
+    -1,
+    -1,
+    -1,
+    -1,
+    -1,
+    -1,
+    -1,
+    -1,
+    -1,
+    -1,
+    -1,
+    -1,
+    -1,
+    -1,
+    -1,
+    -1,
+    -1,
+    -1,
+    -1,
+    -1,
+    -1,
+    -1,
+    -1,
+    -1,
+    -1,
+    -1,
+    -1,
+    -1,
+    -1,
+    -1,
+    -1,
+    -1,
+    -1,
+    -1,
+    -1,
+    -1,
+    -1,
+    -1,
+    -1,
+    -1,
+    -1,
+    -1,
+    -1,
+    -1,
+    -1,
+    -1,
+    -1,
+    -1,
+    -1,
+    -1,
+    -1,
+    -1,
+    -1,
+    -1,
+    -1,
+    -1,
+    -1,
+    -1,
+    -1,
+    -1,
+    -1,
+    -1,
+    -1,
+    -1,
+    -1,
+    -1,
+    -1,
+    -1,
+    -1,
+    -1,
+    -1,
+    -1,
+    -1,
+    -1,
+    -1,
+    -1,
+    -1,
+    -1,
+    -1,
+    -1,
+    -1,
+    -1,
+    -1,
+    -1,
+    -1,
+    -1,
+    -1,
+    -1,
+    -1,
+    -1,
+    -1,
+    -1,
+    -1,
+    -1,
+    -1,
+    -1,
+    -1,
+    -1,
+    -1,
+    -1,
+    -1,
+    -1,
+    -1,
+    -1,
+    -1,
+    -1,
+    -1,
+    -1,
+    -1,
+    -1,
+    -1,
+    -1,
+    -1,
+    -1,
+    -1,
+    -1,
+    -1,
+    -1,
+    -1,
+    -1,
+    -1,
+    -1,
+    -1,
+    -1,
+    -1,
+    -1,
+    -1,
+    -1,
+    -1,
+    -1,
+    -1,
+    1, // fe: an applicator
+    1, // ff: an abstractor
+];
+
+// The table, whose rule is tested once over all of its entries. A caller copies it once before its loop, and lends that copy.
+pub fn table() -> [i32; 256]
+    ensures { λ r. ⌜ Tabled r ⌝ }
+{
+    TABLE
+}
+
+// What the byte b does to the balance.
+pub fn delta_of(t: &[i32; 256], b: u8) -> i32
+    requires { ⌜ Tabled (now t) ⌝ }
+    ensures { λ r. ⌜ r ≡ delta b ⌝ }
+{
+    let i = b as usize;
+    t[i]
+}
+
+// Where the term of s that starts at `from` ends: the balance starts at +1 and the term ends where it first reaches 0.
+pub fn term_end_by(t: &[i32; 256], s: &[u8], from: usize) -> End
+    requires { ⌜ Tabled (now t) × (length (now s) ≤ longestFile) ⌝ }
+    ensures { λ r. ⌜ endOf r ≡ termEnd (now (s .entry)) from ⌝ }
+{
+    let mut balance: i32 = 1;
+    let mut i = from;
+    while i < s.len() {
+        balance += delta_of(t, s[i]);
+        if balance == 0 {
+            return End::At(i + 1);
+        }
+        i += 1;
+    }
+    End::Never
+}
+
+// The same, with a table of its own.
+pub fn term_end(s: &[u8], from: usize) -> End
+    requires { ⌜ length (now s) ≤ longestFile ⌝ }
+    ensures { λ r. ⌜ endOf r ≡ termEnd (now (s .entry)) from ⌝ }
+{
+    let t = table();
+    term_end_by(&t, s, from)
+}
+
+pub fn inverse()
+    ensures { λ r. ⌜ Inverse ⌝ }
+{}
+
+pub fn sizes()
+    ensures { λ r. ⌜ Sizes ⌝ }
+{}
+
+pub fn balance()
+    ensures { λ r. ⌜ Balance ⌝ }
+{}
+
+pub fn scopes()
+    ensures { λ r. ⌜ Scopes ⌝ }
+{}
+
+pub fn examples()
+    ensures { λ r. ⌜ Examples ⌝ }
+{}
