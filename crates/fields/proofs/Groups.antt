@@ -1,0 +1,154 @@
+-- The groups and the steps of an accepted file: which stand in it, and how they follow one another.
+-- Assumes nothing.
+use Prim.Native.Nat.{ℕ, zero, suc, _+_, _*_, _-_, _/_, _≤_, _<_}
+use mathlib.Core.Path.{_≡_, refl, sym, ap, _∙_, subst}
+use mathlib.Core.Bool.{Bool, true, false, cond}
+use mathlib.Core.List.{List, [], _∷_}
+use native.Mathlib.Omega.{arith}
+use lib.ListN.{length, length-take, length-drop}
+use lib.Dec.{leb, ltb}
+use borrow.Author.Tests.{leb-true, ltb-false}
+use Rattle.fields.specs.declared.Field.{Field}
+use Rattle.fields.specs.declared.Field.the-variants.{End}
+use Rattle.fields.specs.declared.Layout.{Layout}
+use Rattle.fields.specs.Fields.{file-limit, bodyEnd, stepOf, stepsFrom, steps, GroupAt, spanAt, groupAt}
+use Rattle.fields.specs.Fields.{Fields, refused, accepted, thenFields, withGroup, groupsFrom, readFile, layoutOf, termBytes}
+use Rattle.fields.specs.Fields.{Whole, GroupHere, Groups, done, more, StepRange, First, SpanOf}
+use Rattle.fields.specs.Claims.{Accepted, AcceptedLayout}
+use Rattle.fields.proofs.Laws.{FieldView, fault, whole, field-view, GroupView, GroupEnded, group-view, here-ends, whole-ends, groups-done, groups-next, term-end}
+
+pub none-left : {s : List ℕ} {at : ℕ} {gs : List GroupAt} → Groups s at gs → length s ≤ at → gs ≡ []
+none-left (done q) h = refl
+none-left (more g r) h = absurd (omega (arith, g .left .head))
+
+pub some-left : {s : List ℕ} {at : ℕ} {gs : List GroupAt} → Groups s at gs → at < length s → GroupHere s at
+some-left (done q) h = absurd (omega arith)
+some-left (more g r) h = g
+
+pub room : {s : List ℕ} {at : ℕ} {gs : List GroupAt} → Groups s at gs → at + 6 * length gs ≤ length s
+room (done q) = omega arith
+room (more g r) = omega (arith, room r)
+
+-- Steps.
+pub no-step : (s : List ℕ) (at : ℕ) → steps s at at ≡ []
+unfolding stepsFrom
+no-step s at = let q : (at - at) / 3 ≡ 0 = omega arith in rw q
+
+pub next-step : {s : List ℕ} {from to : ℕ} → StepRange s from to → from < to
+    → (steps s from to ≡ stepOf s from ∷ steps s (from + 3) to) × StepRange s (from + 3) to
+unfolding stepsFrom
+next-step {from = from} {to = to} r h =
+    let q : (to - from) / 3 ≡ suc ((to - (from + 3)) / 3) = omega arith in
+    (rw q, record { ordered = omega arith; inside = r .inside; multiple = omega arith })
+
+-- The parts of a group.
+first : {s : List ℕ} {at : ℕ} {gs : List GroupAt} → GroupHere s at → Groups s at gs → First s at (spanAt s at) gs
+first h (done q) = absurd (omega (arith, h .left .head))
+first h (more {gs = gs} g r) = record { rest = gs; all = refl; follow = r }
+
+pub span-of : (s : List ℕ) (at : ℕ) → GroupHere s at → SpanOf s at (spanAt s at)
+span-of s at g =
+    record {
+      is-span = refl;
+      longer = omega arith;
+      left-steps = record { ordered = omega arith; inside = g .left .body; multiple = omega (arith, g .left .multiple) };
+      right-steps = record { ordered = omega arith; inside = g .right .body; multiple = omega (arith, g .right .multiple) };
+      first = λ gs r. first g r;
+    }
+
+-- What the groups from a place on leave: a refusal, or groups that stand there.
+data GroupsView (s : List ℕ) (e at : ℕ) : Fields → Type 0 where
+  bad : {n p : ℕ} → 1 ≤ n → GroupsView s e at (refused n p)
+  good : {gs : List GroupAt} → Groups s at gs → GroupsView s e at (accepted e gs)
+
+with-group : {s : List ℕ} {e at m : ℕ} {F : Fields} → GroupEnded s at m → GroupsView s e m F → GroupsView s e at (withGroup (groupAt s at) F)
+unfolding withGroup
+with-group g (bad h) = bad h
+with-group {s = s} g (good {gs = gs} r) = good (more (g .here) (subst (λ (k : ℕ). Groups s k gs) (g .is-next) r))
+
+groups-view : (k : ℕ) (s : List ℕ) (e at : ℕ) → length s ≤ k + at → at ≤ length s → GroupsView s e at (groupsFrom k s e at)
+unfolding groupsFrom thenFields
+groups-view zero s e at h i = good (done {at = at} (omega arith))
+groups-view (suc k) s e at h i = go (leb (length s) at) refl (group-view s at) (λ m l j. groups-view k s e m (omega arith) j)
+  where
+    go : (b : Bool) → leb (length s) at ≡ b → {f : Field} → GroupView s at f → ((m : ℕ) → at + 6 ≤ m → m ≤ length s → GroupsView s e m (groupsFrom k s e m))
+        → GroupsView s e at (cond b (accepted e []) (thenFields f (λ m. withGroup (groupAt s at) (groupsFrom k s e m))))
+    go true q v ih = good (done {at = at} (omega (arith, leb-true (length s) at q)))
+    go false q (fault n) ih = bad n
+    go false q (whole {e = m} g) ih = with-group g (ih m (g .longer) (g .inside))
+
+-- The same of a file.
+data FileView (s : List ℕ) : Fields → Type 0 where
+  bad : {n p : ℕ} → 1 ≤ n → FileView s (refused n p)
+  good : {e : ℕ} {gs : List GroupAt} → Accepted s e gs → FileView s (accepted e gs)
+
+file-view : (s : List ℕ) → FileView s (readFile s)
+unfolding readFile thenFields
+file-view s = go (ltb file-limit (length s)) refl (field-view 1 1 s 0)
+  where
+    after : {e : ℕ} → length s ≤ file-limit → e ≡ bodyEnd s 0 → Whole 1 1 s 0 → {F : Fields} → GroupsView s e e F → FileView s F
+    after l q w (bad h) = bad h
+    after l q w (good r) = good (record { fits = l; term = w; ends = q; groups = r })
+
+    go : (b : Bool) → ltb file-limit (length s) ≡ b → {f : Field} → FieldView 1 1 s 0 f
+        → FileView s (cond b (refused 4 0) (thenFields f (λ e. groupsFrom (length s) s e e)))
+    go true q v = bad {n = 4} (omega arith)
+    go false q (fault h) = bad h
+    go false q (whole {e = e} r w) = after (ltb-false file-limit (length s) q) r w (groups-view (length s) s e e (omega arith) (omega (arith, w .body)))
+
+-- All the groups that stand are read.
+groups-read : {s : List ℕ} {e at : ℕ} {gs : List GroupAt} (k : ℕ) → length s ≤ k + at → Groups s at gs → groupsFrom k s e at ≡ accepted e gs
+unfolding withGroup
+groups-read k h (done q) = groups-done _ _ k _ (omega arith)
+groups-read {s = s} {e = e} {at = at} k h (more {gs = gs} g r) =
+    groups-next s e k at h (omega (arith, g .left .head)) (here-ends s at g) ∙ ap (withGroup (groupAt s at)) (groups-read k (omega arith) r)
+
+pub accepts : {s : List ℕ} {e : ℕ} {gs : List GroupAt} → Accepted s e gs → readFile s ≡ accepted e gs
+accepts {s = s} {e = e} a =
+    term-end s (a .fits) (whole-ends 1 1 s 0 (a .term) ∙ ap End (sym (a .ends))) ∙ groups-read (length s) (omega arith) (a .groups)
+
+view-accepted : {s : List ℕ} {e : ℕ} {gs : List GroupAt} → FileView s (accepted e gs) → Accepted s e gs
+view-accepted (good a) = a
+
+pub accepted-only : (s : List ℕ) {e : ℕ} {gs : List GroupAt} → readFile s ≡ accepted e gs → Accepted s e gs
+accepted-only s q = view-accepted (subst (FileView s) q (file-view s))
+
+-- What the numbers of a file say of it.
+data LayoutView (s : List ℕ) (r : Layout) : Type 0 where
+  bad : 1 ≤ r .number → readFile s ≡ refused (r .number) (r .place) → r .end ≡ 0 → LayoutView s r
+  good : r .number ≡ 0 → AcceptedLayout s r → LayoutView s r
+
+layout-view : (s : List ℕ) {r : Layout} → r ≡ layoutOf (readFile s) → LayoutView s r
+layout-view s e = subst (LayoutView s) (sym e) (go (file-view s) refl)
+  where
+    go : {F : Fields} → FileView s F → readFile s ≡ F → LayoutView s (layoutOf F)
+    go (bad h) q = bad h q refl
+    go (good {gs = gs} a) q = good refl (record { place = refl; list = gs; counted = omega arith; is = a })
+
+pub if-accepted : (s : List ℕ) {r : Layout} → r ≡ layoutOf (readFile s) → r .number ≡ 0 → AcceptedLayout s r
+if-accepted s {r = r} e n = go (layout-view s e)
+  where
+    go : LayoutView s r → AcceptedLayout s r
+    go (bad h q z) = absurd (omega arith)
+    go (good q a) = a
+
+pub if-refused : (s : List ℕ) {r : Layout} → r ≡ layoutOf (readFile s) → (r .number ≡ 0 → ⊥)
+    → (readFile s ≡ refused (r .number) (r .place)) × (r .end ≡ 0)
+if-refused s {r = r} e n = go (layout-view s e)
+  where
+    go : LayoutView s r → (readFile s ≡ refused (r .number) (r .place)) × (r .end ≡ 0)
+    go (bad h q z) = (q, z)
+    go (good q a) = absurd (n q)
+
+pub inside : (s : List ℕ) {r : Layout} → r ≡ layoutOf (readFile s) → r .end ≤ length s
+inside s {r = r} e = go (layout-view s e)
+  where
+    go : LayoutView s r → r .end ≤ length s
+    go (bad h q z) = omega arith
+    go (good q a) = omega (arith, a .is .ends, a .is .term .body)
+
+pub term-length : {s : List ℕ} {e : ℕ} {gs : List GroupAt} → Accepted s e gs → 3 + length (termBytes s e) ≡ e
+term-length a = simp (length-take, length-drop) (omega (arith, a .ends, a .term .body))
+
+pub few : {s : List ℕ} {e : ℕ} {gs : List GroupAt} → Accepted s e gs → 3 < e → length gs ≤ 10921
+few a h = omega (arith, room (a .groups), a .fits)

@@ -1,0 +1,165 @@
+-- Laws of reading a file's fields: what each test gives, how the groups follow one another, and which groups stand in an accepted file.
+-- Assumes nothing.
+use Prim.Native.Nat.{ℕ, zero, suc, _+_, _%_, _≤_, _<_}
+use mathlib.Core.Path.{_≡_, refl, sym, ap, _∙_, subst}
+use mathlib.Core.Bool.{Bool, true, false, cond, not}
+use mathlib.Core.List.{List, []}
+use native.Mathlib.Omega.{arith}
+use lib.ListN.{length, getD}
+use lib.Dec.{leb, ltb, eqb}
+use borrow.Author.Tests.{ltb-false, eqb-true, lt-ltb, le-ltb, le-leb, lt-leb, eq-eqb, ne-eqb}
+use Rattle.fields.specs.declared.Field.{Field}
+use Rattle.fields.specs.declared.Field.the-variants.{Fault, End}
+use Rattle.fields.specs.Fields.{file-limit, readFile, word, bodyEnd, fieldAt, thenField, groupEnd, GroupAt, spanAt, groupAt, Fields, refused, accepted}
+use Rattle.fields.specs.Fields.{thenFields, withGroup, groupsFrom, layoutWith, Whole, GroupHere}
+
+-- One field.
+module _ (tag unit : ℕ) (s : List ℕ) (at : ℕ) where
+  pub head-cut : length s < at + 3 → fieldAt tag unit s at ≡ Fault 1 at
+  unfolding fieldAt
+  head-cut h = simp (lt-ltb _ _ h)
+
+  pub wrong-tag : at + 3 ≤ length s → (getD s at 0 ≡ tag → ⊥) → fieldAt tag unit s at ≡ Fault 2 at
+  unfolding fieldAt
+  wrong-tag h t = simp (le-ltb _ _ h, ne-eqb _ _ t)
+
+  pub body-cut : at + 3 ≤ length s → getD s at 0 ≡ tag → length s < bodyEnd s at → fieldAt tag unit s at ≡ Fault 1 at
+  unfolding fieldAt
+  body-cut h t b = simp (le-ltb _ _ h, eq-eqb _ _ t, lt-ltb _ _ b)
+
+  pub no-multiple : at + 3 ≤ length s → getD s at 0 ≡ tag → bodyEnd s at ≤ length s → (word s (at + 1) % unit ≡ 0 → ⊥)
+      → fieldAt tag unit s at ≡ Fault 2 at
+  unfolding fieldAt
+  no-multiple h t b m = simp (le-ltb _ _ h, eq-eqb _ _ t, le-ltb _ _ b, ne-eqb _ _ m)
+
+  pub whole-ends : Whole tag unit s at → fieldAt tag unit s at ≡ End (bodyEnd s at)
+  unfolding fieldAt
+  whole-ends w = simp (le-ltb _ _ (w .head), eq-eqb _ _ (w .tagged), le-ltb _ _ (w .body), eq-eqb _ _ (w .multiple))
+
+-- What a field's tests leave: a refusal, or the whole field up to e.
+pub data FieldView (tag unit : ℕ) (s : List ℕ) (at : ℕ) : Field → Type 0 where
+  fault : {n p : ℕ} → 1 ≤ n → FieldView tag unit s at (Fault n p)
+  whole : {e : ℕ} → e ≡ bodyEnd s at → Whole tag unit s at → FieldView tag unit s at (End e)
+
+pub field-view : (tag unit : ℕ) (s : List ℕ) (at : ℕ) → FieldView tag unit s at (fieldAt tag unit s at)
+unfolding fieldAt
+field-view tag unit s at = go _ _ _ _ refl refl refl refl
+  where
+    go : (a b c d : Bool) → ltb (length s) (at + 3) ≡ a → eqb (getD s at 0) tag ≡ b → ltb (length s) (bodyEnd s at) ≡ c → eqb (word s (at + 1) % unit) 0 ≡ d
+        → FieldView tag unit s at (cond a (Fault 1 at) (cond (not b) (Fault 2 at) (cond c (Fault 1 at) (cond (not d) (Fault 2 at) (End (bodyEnd s at))))))
+    go true b c d p q r m = fault {n = 1} (omega arith)
+    go false false c d p q r m = fault {n = 2} (omega arith)
+    go false true true d p q r m = fault {n = 1} (omega arith)
+    go false true false false p q r m = fault {n = 2} (omega arith)
+    go false true false true p q r m =
+        whole refl (record { head = ltb-false _ _ p; tagged = eqb-true _ _ q; body = ltb-false _ _ r; multiple = eqb-true _ _ m })
+
+pub record Ended (tag unit : ℕ) (s : List ℕ) (at e : ℕ) : Type 0 where
+  pub is-whole : Whole tag unit s at
+  pub is-end : e ≡ bodyEnd s at
+
+view-ended : {tag unit : ℕ} {s : List ℕ} {at e : ℕ} → FieldView tag unit s at (End e) → Ended tag unit s at e
+view-ended (whole q w) = record { is-whole = w; is-end = q }
+
+pub ended : (tag unit : ℕ) (s : List ℕ) (at : ℕ) {e : ℕ} → fieldAt tag unit s at ≡ End e → Ended tag unit s at e
+ended tag unit s at q = view-ended (subst (FieldView tag unit s at) q (field-view tag unit s at))
+
+-- One group.
+pub record GroupEnded (s : List ℕ) (at e : ℕ) : Type 0 where
+  pub here : GroupHere s at
+  pub is-next : e ≡ spanAt s at .next
+  pub longer : at + 6 ≤ e
+  pub inside : e ≤ length s
+
+pub data GroupView (s : List ℕ) (at : ℕ) : Field → Type 0 where
+  fault : {n p : ℕ} → 1 ≤ n → GroupView s at (Fault n p)
+  whole : {e : ℕ} → GroupEnded s at e → GroupView s at (End e)
+
+right-view : {s : List ℕ} {at m : ℕ} {f : Field} → m ≡ bodyEnd s at → Whole 2 3 s at → FieldView 3 3 s m f → GroupView s at f
+right-view q l (fault h) = fault h
+right-view {s = s} {at = at} q l (whole {e = e} r w) =
+    let right : Whole 3 3 s (bodyEnd s at) = subst (Whole 3 3 s) q w in
+    let next : e ≡ spanAt s at .next = r ∙ ap (bodyEnd s) q in
+    whole (record { here = record { left = l; right = right }; is-next = next; longer = omega arith; inside = omega (arith, right .body) })
+
+pub group-view : (s : List ℕ) (at : ℕ) → GroupView s at (groupEnd s at)
+unfolding groupEnd thenField
+group-view s at = go (field-view 2 3 s at)
+  where
+    go : {f : Field} → FieldView 2 3 s at f → GroupView s at (thenField f (fieldAt 3 3 s))
+    go (fault h) = fault h
+    go (whole {e = m} q w) = right-view q w (field-view 3 3 s m)
+
+view-group-ended : {s : List ℕ} {at e : ℕ} → GroupView s at (End e) → GroupEnded s at e
+view-group-ended (whole g) = g
+
+pub group-ended : (s : List ℕ) (at : ℕ) {e : ℕ} → groupEnd s at ≡ End e → GroupEnded s at e
+group-ended s at q = view-group-ended (subst (GroupView s at) q (group-view s at))
+
+pub here-ends : (s : List ℕ) (at : ℕ) → GroupHere s at → groupEnd s at ≡ End (spanAt s at .next)
+unfolding groupEnd thenField
+here-ends s at g = rw (whole-ends 2 3 s at (g .left)) (whole-ends 3 3 s (bodyEnd s at) (g .right))
+
+pub left-fault : {n p : ℕ} (s : List ℕ) (at : ℕ) → fieldAt 2 3 s at ≡ Fault n p → Fault n p ≡ groupEnd s at
+unfolding groupEnd thenField
+left-fault s at q = rw q
+
+pub left-end : {m : ℕ} (s : List ℕ) (at : ℕ) → fieldAt 2 3 s at ≡ End m → fieldAt 3 3 s m ≡ groupEnd s at
+unfolding groupEnd thenField
+left-end s at q = rw q
+
+-- All groups from a place on. With a k of the bytes left, one more changes nothing.
+module _ (s : List ℕ) (e : ℕ) where
+  pub groups-done : (k : ℕ) (at : ℕ) → length s ≤ at → groupsFrom k s e at ≡ accepted e []
+  unfolding groupsFrom
+  groups-done zero at h = refl
+  groups-done (suc k) at h = simp (le-leb _ _ h)
+
+  after : (k at : ℕ) → ((m : ℕ) → at + 6 ≤ m → groupsFrom k s e m ≡ groupsFrom (suc k) s e m)
+      → thenFields (groupEnd s at) (λ m. withGroup (groupAt s at) (groupsFrom k s e m)) ≡ thenFields (groupEnd s at) (λ m. withGroup (groupAt s at) (groupsFrom (suc k) s e m))
+  unfolding thenFields
+  after k at same = go (group-view s at)
+    where
+      go : {f : Field} → GroupView s at f
+          → thenFields f (λ m. withGroup (groupAt s at) (groupsFrom k s e m)) ≡ thenFields f (λ m. withGroup (groupAt s at) (groupsFrom (suc k) s e m))
+      go (fault h) = refl
+      go (whole {e = m} g) = ap (withGroup (groupAt s at)) (same m (g .longer))
+
+  one-more : (k at : ℕ) → length s ≤ k + at → groupsFrom k s e at ≡ groupsFrom (suc k) s e at
+  unfolding groupsFrom
+  one-more zero at h = sym (groups-done 1 at (omega arith))
+  one-more (suc k) at h = ap (cond (leb (length s) at) (accepted e [])) (after k at (λ m l. one-more k m (omega arith)))
+
+  pub groups-step : (k at : ℕ) → length s ≤ k + at → at < length s
+      → groupsFrom k s e at ≡ thenFields (groupEnd s at) (λ m. withGroup (groupAt s at) (groupsFrom k s e m))
+  unfolding groupsFrom
+  groups-step zero at h l = absurd (omega arith)
+  groups-step (suc k) at h l = rw (lt-leb _ _ l) (after k at (λ m i. one-more k m (omega arith)))
+
+  pub groups-fault : {n p : ℕ} (k at : ℕ) → length s ≤ k + at → at < length s → groupEnd s at ≡ Fault n p → groupsFrom k s e at ≡ refused n p
+  unfolding thenFields
+  groups-fault k at h l q = groups-step k at h l ∙ rw q
+
+  pub groups-next : {m : ℕ} (k at : ℕ) → length s ≤ k + at → at < length s → groupEnd s at ≡ End m
+      → groupsFrom k s e at ≡ withGroup (groupAt s at) (groupsFrom k s e m)
+  unfolding thenFields
+  groups-next k at h l q = groups-step k at h l ∙ rw q
+
+-- A group more in the list, or counted before.
+pub layout-group : (n : ℕ) (g : GroupAt) (F : Fields) → layoutWith n (withGroup g F) ≡ layoutWith (n + 1) F
+unfolding withGroup
+layout-group n g (refused k p) = refl
+layout-group n g (accepted e gs) = let q : n + suc (length gs) ≡ n + 1 + length gs = omega arith in rw q
+
+-- The file.
+pub too-long : (s : List ℕ) → file-limit < length s → readFile s ≡ refused 4 0
+unfolding readFile
+too-long s h = simp (lt-ltb _ _ h)
+
+pub term-fault : {n p : ℕ} (s : List ℕ) → length s ≤ file-limit → fieldAt 1 1 s 0 ≡ Fault n p → readFile s ≡ refused n p
+unfolding readFile thenFields
+term-fault s h q = rw (le-ltb _ _ h, q)
+
+pub term-end : {e : ℕ} (s : List ℕ) → length s ≤ file-limit → fieldAt 1 1 s 0 ≡ End e → readFile s ≡ groupsFrom (length s) s e e
+unfolding readFile thenFields
+term-end s h q = rw (le-ltb _ _ h, q)

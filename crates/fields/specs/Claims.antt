@@ -1,0 +1,52 @@
+-- What this crate promises of the definitions. The function of the same name (src/lib.rt) ensures each record.
+-- Assumes nothing.
+use Prim.Native.Nat.{ℕ, _+_, _*_, _≤_, _<_}
+use mathlib.Core.Path.{_≡_}
+use mathlib.Core.Logic.{_↔_}
+use mathlib.Core.List.{List, [], _∷_, map}
+use lib.ListN.{length}
+use Rattle.calculus.specs.Rules.{Group}
+use Rattle.fields.specs.declared.Layout.{Layout}
+use Rattle.fields.specs.Fields.{file-limit, bodyEnd, stepOf, steps, GroupAt, refused, accepted}
+use Rattle.fields.specs.Fields.{readFile, layoutOf, termBytes, Whole, GroupHere, Groups, StepRange}
+use Rattle.fields.specs.Files.{writeFile, placed, Bytes, GroupsFit}
+
+-- The file s has its term's body up to e and the groups gs.
+pub record Accepted (s : List ℕ) (e : ℕ) (gs : List GroupAt) : Type 0 where
+  pub fits : length s ≤ file-limit
+  pub term : Whole 1 1 s 0
+  pub ends : e ≡ bodyEnd s 0
+  pub groups : Groups s e gs
+
+-- The numbers r of an accepted file.
+pub record AcceptedLayout (s : List ℕ) (r : Layout) : Type 0 where
+  pub place : r .place ≡ 0
+  pub list : List GroupAt
+  pub counted : r .groups ≡ length list
+  pub is : Accepted s (r .end) list
+
+-- 1. Which files are accepted, and how their groups and steps follow one another.
+pub record Reading : Type 0 where
+  pub exactly : (s : List ℕ) (e : ℕ) (gs : List GroupAt) → (readFile s ≡ accepted e gs) ↔ Accepted s e gs
+  pub if-accepted : (s : List ℕ) {r : Layout} → r ≡ layoutOf (readFile s) → r .number ≡ 0 → AcceptedLayout s r
+  pub if-refused : (s : List ℕ) {r : Layout} → r ≡ layoutOf (readFile s) → (r .number ≡ 0 → ⊥)
+      → (readFile s ≡ refused (r .number) (r .place)) × (r .end ≡ 0)
+  pub inside : (s : List ℕ) {r : Layout} → r ≡ layoutOf (readFile s) → r .end ≤ length s
+  pub term-length : {s : List ℕ} {e : ℕ} {gs : List GroupAt} → Accepted s e gs → 3 + length (termBytes s e) ≡ e
+  pub room : {s : List ℕ} {at : ℕ} {gs : List GroupAt} → Groups s at gs → at + 6 * length gs ≤ length s
+  pub few : {s : List ℕ} {e : ℕ} {gs : List GroupAt} → Accepted s e gs → 3 < e → length gs ≤ 10921
+  pub none-left : {s : List ℕ} {at : ℕ} {gs : List GroupAt} → Groups s at gs → length s ≤ at → gs ≡ []
+  pub some-left : {s : List ℕ} {at : ℕ} {gs : List GroupAt} → Groups s at gs → at < length s → GroupHere s at
+  pub no-step : (s : List ℕ) (at : ℕ) → steps s at at ≡ []
+  pub next-step : {s : List ℕ} {from to : ℕ} → StepRange s from to → from < to
+      → (steps s from to ≡ stepOf s from ∷ steps s (from + 3) to) × StepRange s (from + 3) to
+
+-- 2. A file that is written is read back; and every accepted file is one that is written.
+pub record Writing : Type 0 where
+  pub read-back : (b : List ℕ) (gs : List Group) → length (writeFile b gs) ≤ file-limit
+      → readFile (writeFile b gs) ≡ accepted (3 + length b) (placed (3 + length b) gs)
+  pub same-term : (b : List ℕ) (gs : List Group) → termBytes (writeFile b gs) (3 + length b) ≡ b
+  pub same-groups : (at : ℕ) (gs : List Group) → map (λ g. g .group) (placed at gs) ≡ gs
+  pub in-bytes : (b : List ℕ) (gs : List Group) → length (writeFile b gs) ≤ file-limit → Bytes b → GroupsFit gs → Bytes (writeFile b gs)
+  pub only-written : {s : List ℕ} {e : ℕ} {gs : List GroupAt} → Bytes s → readFile s ≡ accepted e gs → s ≡ writeFile (termBytes s e) (map (λ g. g .group) gs)
+  pub fitting : {s : List ℕ} {e : ℕ} {gs : List GroupAt} → Bytes s → readFile s ≡ accepted e gs → GroupsFit (map (λ g. g .group) gs)

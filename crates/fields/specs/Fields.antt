@@ -1,0 +1,147 @@
+-- The fields of a file (document 01, 'The file'): what is refused, in its order, and what an accepted file holds.
+-- Assumes nothing.
+use Prim.Native.Nat.{ℕ, zero, suc, _+_, _*_, _-_, _/_, _%_, _≤_}
+use mathlib.Core.Path.{_≡_}
+use mathlib.Core.Bool.{cond, not}
+use mathlib.Core.List.{List, [], _∷_}
+use lib.ListN.{length, getD, take, drop}
+use lib.Dec.{leb, ltb, eqb}
+use Rattle.calculus.specs.Steps.{Step}
+use Rattle.calculus.specs.Rules.{Group}
+use Rattle.fields.specs.declared.Field.{Field}
+use Rattle.fields.specs.declared.Field.the-variants.{Fault, End}
+use Rattle.fields.specs.declared.Layout.{Layout}
+use Rattle.fields.specs.declared.GroupSpan.{GroupSpan}
+
+-- The most bytes of a file.
+abbrev pub file-limit : ℕ
+file-limit = 65535
+
+-- The number in two bytes, high byte first.
+unfoldable pub word : List ℕ → ℕ → ℕ
+word s at = getD s at 0 * 256 + getD s (at + 1) 0
+
+-- Where the body of the field at a place ends.
+abbrev pub bodyEnd : List ℕ → ℕ → ℕ
+bodyEnd s at = at + 3 + word s (at + 1)
+
+-- The field at a place, where tag is due and the body is a multiple of unit bytes: its end, or the number and place of its refusal.
+-- Head whole, tag, body whole, multiple.
+unfoldable pub fieldAt : (tag unit : ℕ) → List ℕ → ℕ → Field
+fieldAt tag unit s at =
+    cond (ltb (length s) (at + 3)) (Fault 1 at)
+    (cond (not (eqb (getD s at 0) tag)) (Fault 2 at)
+    (cond (ltb (length s) (bodyEnd s at)) (Fault 1 at)
+    (cond (not (eqb (word s (at + 1) % unit) 0)) (Fault 2 at)
+    (End (bodyEnd s at)))))
+
+-- What follows a field, at its end.
+unfoldable pub thenField : Field → (ℕ → Field) → Field
+thenField (Fault n p) f = Fault n p
+thenField (End e) f = f e
+
+-- A group: a tag 2 field, and a tag 3 field after it.
+unfoldable pub groupEnd : List ℕ → ℕ → Field
+groupEnd s at = thenField (fieldAt 2 3 s at) (fieldAt 3 3 s)
+
+-- The step in three bytes, and n steps from a place.
+abbrev pub stepOf : List ℕ → ℕ → Step
+stepOf s at = record { kind = getD s at 0; place = word s (at + 1) }
+
+unfoldable pub stepsFrom : ℕ → List ℕ → ℕ → List Step
+stepsFrom zero s at = []
+stepsFrom (suc n) s at = stepOf s at ∷ stepsFrom n s (at + 3)
+
+-- The steps that stand from one place up to another.
+abbrev pub steps : List ℕ → ℕ → ℕ → List Step
+steps s from to = stepsFrom ((to - from) / 3) s from
+
+-- A group and the place of its tag 2 head in the file.
+pub record GroupAt : Type 0 where
+  pub head : ℕ
+  pub group : Group
+
+-- The parts of the group at a place.
+abbrev pub spanAt : List ℕ → ℕ → GroupSpan
+spanAt s at =
+    let m = bodyEnd s at in
+    record { left = at + 3; middle = m; right = m + 3; next = bodyEnd s m }
+
+abbrev pub groupIn : List ℕ → GroupSpan → Group
+groupIn s g = record { left = steps s (g .left) (g .middle); right = steps s (g .right) (g .next) }
+
+abbrev pub groupAt : List ℕ → ℕ → GroupAt
+groupAt s at = record { head = at; group = groupIn s (spanAt s at) }
+
+-- What the fields of a file give: a refusal's number and place, or the end of the term's body, which starts at 3, and the groups.
+pub data Fields : Type 0 where
+  refused : (number place : ℕ) → Fields
+  accepted : (end : ℕ) → List GroupAt → Fields
+
+unfoldable pub thenFields : Field → (ℕ → Fields) → Fields
+thenFields (Fault n p) f = refused n p
+thenFields (End e) f = f e
+
+unfoldable pub withGroup : GroupAt → Fields → Fields
+withGroup g (refused n p) = refused n p
+withGroup g (accepted e gs) = accepted e (g ∷ gs)
+
+-- The groups from a place on, where the term's body ends at e. k bounds their number: that of the bytes left is enough.
+unfoldable pub groupsFrom : ℕ → List ℕ → ℕ → ℕ → Fields
+groupsFrom zero s e at = accepted e []
+groupsFrom (suc k) s e at =
+    cond (leb (length s) at) (accepted e []) (thenFields (groupEnd s at) (λ m. withGroup (groupAt s at) (groupsFrom k s e m)))
+
+-- The file: its length, the term's field, the groups.
+unfoldable pub readFile : List ℕ → Fields
+unfolding word fieldAt thenField groupEnd stepsFrom thenFields withGroup groupsFrom
+readFile s = cond (ltb file-limit (length s)) (refused 4 0) (thenFields (fieldAt 1 1 s 0) (λ e. groupsFrom (length s) s e e))
+
+-- The same in numbers: number and place, the end of the term's body (0 where refused), and how many groups, n and those that follow.
+abbrev pub layoutWith : ℕ → Fields → Layout
+layoutWith n (refused k p) = record { number = k; place = p; end = 0; groups = 0 }
+layoutWith n (accepted e gs) = record { number = 0; place = 0; end = e; groups = n + length gs }
+
+abbrev pub layoutOf : Fields → Layout
+layoutOf = layoutWith 0
+
+-- The bytes of the term in a file whose term's body ends at e.
+abbrev pub termBytes : List ℕ → ℕ → List ℕ
+termBytes s e = take (e - 3) (drop 3 s)
+
+-- A field that passes its tests.
+pub record Whole (tag unit : ℕ) (s : List ℕ) (at : ℕ) : Type 0 where
+  pub head : at + 3 ≤ length s
+  pub tagged : getD s at 0 ≡ tag
+  pub body : bodyEnd s at ≤ length s
+  pub multiple : word s (at + 1) % unit ≡ 0
+
+-- A group stands at a place.
+pub record GroupHere (s : List ℕ) (at : ℕ) : Type 0 where
+  pub left : Whole 2 3 s at
+  pub right : Whole 3 3 s (bodyEnd s at)
+
+-- The groups gs stand in s from a place on, and end it.
+pub data Groups (s : List ℕ) : ℕ → List GroupAt → Type 0 where
+  done : {at : ℕ} → at ≡ length s → Groups s at []
+  more : {at : ℕ} {gs : List GroupAt} → GroupHere s at → Groups s (spanAt s at .next) gs → Groups s at (groupAt s at ∷ gs)
+
+-- Whole steps stand from one place up to another.
+pub record StepRange (s : List ℕ) (from to : ℕ) : Type 0 where
+  pub ordered : from ≤ to
+  pub inside : to ≤ length s
+  pub multiple : (to - from) % 3 ≡ 0
+
+-- Of the groups gs the first is at a place and has the parts r, and the others follow.
+pub record First (s : List ℕ) (at : ℕ) (r : GroupSpan) (gs : List GroupAt) : Type 0 where
+  pub rest : List GroupAt
+  pub all : gs ≡ record { head = at; group = groupIn s r } ∷ rest
+  pub follow : Groups s (r .next) rest
+
+-- r has the parts of the group at a place, the first of those that stand from there on.
+pub record SpanOf (s : List ℕ) (at : ℕ) (r : GroupSpan) : Type 0 where
+  pub is-span : r ≡ spanAt s at
+  pub longer : at + 6 ≤ r .next
+  pub left-steps : StepRange s (r .left) (r .middle)
+  pub right-steps : StepRange s (r .right) (r .next)
+  pub first : (gs : List GroupAt) → Groups s at gs → First s at r gs

@@ -1,0 +1,1063 @@
+//! Random terms and files: texts correct by construction, damaged files,
+//! terms and files at the limits.
+
+use crate::file::Group;
+use crate::frame::{type_of, type_of_variable, Entry, Frame, Step, LOCAL, REMOVAL};
+use crate::normaliser::{equivalent, groups_for, possible_steps, reduce, Order};
+use crate::term::{abs, app, read_term, Term, Term::*};
+
+// ---------------------------------------------------------------- random
+
+/// The splitmix64 generator.
+pub struct Rng(u64);
+
+impl Rng {
+    pub fn new(seed: u64) -> Rng {
+        Rng(seed)
+    }
+
+    pub fn next_u64(&mut self) -> u64 {
+        self.0 = self.0.wrapping_add(0x9e37_79b9_7f4a_7c15);
+        let mut z = self.0;
+        z = (z ^ (z >> 30)).wrapping_mul(0xbf58_476d_1ce4_e5b9);
+        z = (z ^ (z >> 27)).wrapping_mul(0x94d0_49bb_1331_11eb);
+        z ^ (z >> 31)
+    }
+
+    /// From 0 to n - 1.
+    pub fn below(&mut self, n: usize) -> usize {
+        (self.next_u64() % n as u64) as usize
+    }
+
+    /// From `low` to `high`, both included.
+    pub fn between(&mut self, low: usize, high: usize) -> usize {
+        low + self.below(high - low + 1)
+    }
+
+    pub fn pick<'a, T>(&mut self, items: &'a [T]) -> &'a T {
+        &items[self.below(items.len())]
+    }
+
+    pub fn byte(&mut self) -> u8 {
+        self.next_u64() as u8
+    }
+}
+
+// ----------------------------------------------------------------- files
+
+/// A field with its head; the length is cut to two bytes.
+pub fn field(tag: u8, body: &[u8]) -> Vec<u8> {
+    let length = body.len() as u16;
+    let mut bytes = vec![tag];
+    bytes.extend(length.to_be_bytes());
+    bytes.extend(body);
+    bytes
+}
+
+pub fn steps_bytes(steps: &[Step]) -> Vec<u8> {
+    let mut bytes = Vec::new();
+    for step in steps {
+        bytes.push(step.kind);
+        bytes.extend((step.place as u16).to_be_bytes());
+    }
+    bytes
+}
+
+/// The file with this term and these groups; their heads are ignored.
+pub fn file(term: &[u8], groups: &[Group]) -> Vec<u8> {
+    let mut bytes = field(1, term);
+    for group in groups {
+        bytes.extend(field(2, &steps_bytes(&group.left)));
+        bytes.extend(field(3, &steps_bytes(&group.right)));
+    }
+    bytes
+}
+
+pub fn empty_groups(n: usize) -> Vec<Group> {
+    vec![
+        Group {
+            head: 0,
+            left: Vec::new(),
+            right: Vec::new()
+        };
+        n
+    ]
+}
+
+// ---------------------------------------------------------- closed terms
+
+/// A closed term of this odd size, seldom correct.
+pub fn closed_term(rng: &mut Rng, size: usize) -> Term {
+    closed_after(rng, size, 0)
+}
+
+fn closed_after(rng: &mut Rng, size: usize, depth: u64) -> Term {
+    if size == 1 {
+        if depth == 0 || rng.below(4) == 0 {
+            return Tau;
+        }
+        let reach = if rng.below(2) == 0 {
+            depth.min(3)
+        } else {
+            depth
+        };
+        return Var(1 + rng.below(reach as usize) as u64);
+    }
+    // An odd size for the part inside the wagon; often a small one.
+    let most = (size - 3) / 2;
+    let half = if rng.below(3) == 0 {
+        rng.between(0, most)
+    } else {
+        rng.between(0, most.min(2))
+    };
+    let inner = 2 * half + 1;
+    let rest = size - 1 - inner;
+    if depth < 250 && rng.below(3) > 0 {
+        let u = closed_after(rng, inner, depth);
+        abs(u, closed_after(rng, rest, depth + 1))
+    } else {
+        let k = closed_after(rng, inner, depth);
+        app(k, closed_after(rng, rest, depth))
+    }
+}
+
+/// A bare term for the calls that take one: text, closed term, or damaged.
+pub fn bare_term(rng: &mut Rng) -> Vec<u8> {
+    match rng.below(10) {
+        0..=3 => {
+            let size = 2 * rng.below(40) + 1;
+            closed_term(rng, size).bytes()
+        }
+        4..=6 => text(rng).bytes(),
+        7 => {
+            let mut bytes = text(rng).bytes();
+            damage_bytes(rng, &mut bytes);
+            bytes
+        }
+        8 => limit_term(rng),
+        _ => (0..rng.below(8)).map(|_| odd_byte(rng)).collect(),
+    }
+}
+
+/// A step for a bare term: a possible one, one near it, or any.
+pub fn step_for(rng: &mut Rng, bytes: &[u8]) -> (u8, u16) {
+    let steps = match read_term(bytes) {
+        Ok(term) => possible_steps(&Frame::new(), &term),
+        Err(_) => Vec::new(),
+    };
+    if steps.is_empty() || rng.below(4) == 0 {
+        let kind = *rng.pick(&[0, 1, 2, 3, 255]);
+        let place = match rng.below(4) {
+            0 => 65_535,
+            1 => bytes.len() as u16,
+            _ => rng.below(bytes.len() + 1) as u16,
+        };
+        return (kind, place);
+    }
+    let step = *rng.pick(&steps);
+    match rng.below(10) {
+        0 => (step.kind, step.place.wrapping_add(1) as u16),
+        1 => (3 - step.kind, step.place as u16),
+        _ => (step.kind, step.place as u16),
+    }
+}
+
+/// A byte with the rare ones made common.
+fn odd_byte(rng: &mut Rng) -> u8 {
+    match rng.below(6) {
+        0 => 0,
+        1 => 1,
+        2 => 2,
+        3 => 0xfe,
+        4 => 0xff,
+        _ => rng.byte(),
+    }
+}
+
+// ----------------------------------------------------------------- texts
+
+/// A text correct by construction: declarations, definitions and
+/// applications whose arguments fit.
+pub fn text(rng: &mut Rng) -> Term {
+    let lines = match rng.below(10) {
+        0..=4 => rng.between(1, 5),
+        5..=7 => rng.between(4, 12),
+        8 => rng.between(10, 25),
+        _ => rng.between(20, 45),
+    };
+    Maker { rng }.text(lines)
+}
+
+/// Texts are kept below these sizes.
+const TEXT_BYTES: usize = 1500;
+const LINE_BYTES: usize = 120;
+
+struct Maker<'a> {
+    rng: &'a mut Rng,
+}
+
+/// Declaration [U] or definition ⟨K⟩[U] at the top of a text.
+type Line = Entry;
+
+impl Maker<'_> {
+    fn text(&mut self, lines: usize) -> Term {
+        let mut frame: Frame = vec![Entry::Single(Tau)];
+        let mut bytes = 2;
+        while frame.len() <= lines && bytes < TEXT_BYTES {
+            let line = self.line(&frame);
+            let size = line.u().size() + line.k().map_or(0, Term::size);
+            if size <= LINE_BYTES {
+                bytes += size + 2;
+                frame.push(line);
+            } else {
+                frame.push(Entry::Single(Tau));
+            }
+        }
+        let end = self.term(&frame, 2);
+        frame.into_iter().rev().fold(end, |rest, line| match line {
+            Entry::Single(u) => abs(u, rest),
+            Entry::Pair(k, u) => app(k, abs(u, rest)),
+        })
+    }
+
+    fn line(&mut self, frame: &Frame) -> Line {
+        match self.rng.below(10) {
+            0..=2 => Entry::Single(self.term(frame, 3)),
+            3 => Entry::Single(self.product(frame)),
+            4..=6 => match self.definition(frame, 2) {
+                Some((k, u)) => Entry::Pair(k, u),
+                None => Entry::Single(Tau),
+            },
+            _ => self.application_line(frame),
+        }
+    }
+
+    /// Defines an application; declares what its argument needs if no
+    /// argument is found.
+    fn application_line(&mut self, frame: &Frame) -> Line {
+        let head = Var(self.any_index(frame));
+        let Some(domain) = domain(frame, &head) else {
+            return Entry::Single(self.term(frame, 2));
+        };
+        match self.inhabitant(frame, &domain, 2) {
+            None => Entry::Single(domain),
+            Some(k) => {
+                let spine = app(k, head);
+                let spine = self.apply_more(frame, spine, 2);
+                match self.defined(frame, spine) {
+                    Some((k, u)) => Entry::Pair(k, u),
+                    None => Entry::Single(Tau),
+                }
+            }
+        }
+    }
+
+    fn any_index(&mut self, frame: &Frame) -> u64 {
+        let reach = if self.rng.below(2) == 0 {
+            frame.len().min(4)
+        } else {
+            frame.len()
+        };
+        1 + self.rng.below(reach) as u64
+    }
+
+    /// A correct term after the frame.
+    fn term(&mut self, frame: &Frame, fuel: usize) -> Term {
+        if frame.is_empty() || (fuel == 0 && self.rng.below(4) == 0) {
+            return Tau;
+        }
+        if fuel == 0 {
+            return Var(self.any_index(frame));
+        }
+        match self.rng.below(12) {
+            0 => Tau,
+            1..=3 => Var(self.any_index(frame)),
+            4..=6 => {
+                let u = self.term(frame, fuel - 1);
+                let inner = extended(frame, Entry::Single(u.clone()));
+                abs(u, self.term(&inner, fuel - 1))
+            }
+            7..=8 => match self.definition(frame, fuel - 1) {
+                None => Tau,
+                Some((k, u)) => {
+                    let inner = extended(frame, Entry::Pair(k.clone(), u.clone()));
+                    app(k, abs(u, self.term(&inner, fuel - 1)))
+                }
+            },
+            _ => {
+                let head = Var(self.any_index(frame));
+                self.apply_more(frame, head, fuel - 1)
+            }
+        }
+    }
+
+    /// [A][B]...C with short parts, so that there is something to apply.
+    fn product(&mut self, frame: &Frame) -> Term {
+        let mut inner = frame.clone();
+        let mut us = Vec::new();
+        for _ in 0..self.rng.between(1, 3) {
+            let u = self.term(&inner, 1);
+            inner.push(Entry::Single(u.clone()));
+            us.push(u);
+        }
+        let end = self.term(&inner, 1);
+        us.into_iter().rev().fold(end, |rest, u| abs(u, rest))
+    }
+
+    /// Puts applicators that fit before a correct term.
+    fn apply_more(&mut self, frame: &Frame, mut spine: Term, fuel: usize) -> Term {
+        for _ in 0..3 {
+            let Some(domain) = domain(frame, &spine) else {
+                break;
+            };
+            if spine.size() + domain.size() > LINE_BYTES {
+                break;
+            }
+            let Some(k) = self.inhabitant(frame, &domain, fuel) else {
+                break;
+            };
+            spine = app(k, spine);
+        }
+        spine
+    }
+
+    fn definition(&mut self, frame: &Frame, fuel: usize) -> Option<(Term, Term)> {
+        let k = self.term(frame, fuel);
+        self.defined(frame, k)
+    }
+
+    /// The term with its type in some guise, if it has one.
+    fn defined(&mut self, frame: &Frame, k: Term) -> Option<(Term, Term)> {
+        let u = type_of(frame, &k)?;
+        if u.size() > LINE_BYTES {
+            return None;
+        }
+        let mut disguised = u;
+        for _ in 0..self.rng.below(3) {
+            disguised = self.disguise(frame, disguised);
+        }
+        Some((k, disguised))
+    }
+
+    /// Another correct term that is equivalent.
+    fn disguise(&mut self, frame: &Frame, term: Term) -> Term {
+        if term.size() > LINE_BYTES {
+            return term;
+        }
+        match self.rng.below(6) {
+            0 => {
+                // Somewhere on the way to its normal form.
+                let bodies = reduce(frame, &term, Order::RemovalFirst, self.rng).bodies;
+                self.rng.pick(&bodies).clone()
+            }
+            1 => {
+                // After a definition of no use.
+                let k = Var(self.any_index(frame));
+                let u = type_of(frame, &k).expect("a variable has a type");
+                app(k, abs(u, term.lift(1)))
+            }
+            2 => match type_of(frame, &term) {
+                // As the defined variable itself.
+                Some(u) if u.size() <= LINE_BYTES => app(term, abs(u, Var(1))),
+                _ => term,
+            },
+            _ => {
+                // With the name of a definition for its K.
+                let index = self.any_index(frame);
+                match frame[frame.len() - index as usize].k() {
+                    Some(k) => self.fold(&term, &k.lift(index), index),
+                    None => term,
+                }
+            }
+        }
+    }
+
+    /// Puts `index` for occurrences of `k`, both as they stand before `term`.
+    fn fold(&mut self, term: &Term, k: &Term, index: u64) -> Term {
+        if term == k && self.rng.below(3) > 0 {
+            return Var(index);
+        }
+        match term {
+            Tau | Var(_) => term.clone(),
+            App(inner, rest) => {
+                let inner = self.fold(inner, k, index);
+                app(inner, self.fold(rest, k, index))
+            }
+            Abs(inner, rest) => {
+                let inner = self.fold(inner, k, index);
+                abs(inner, self.fold(rest, &k.lift(1), index + 1))
+            }
+        }
+    }
+
+    /// A correct term with this type, if one is found soon.
+    fn inhabitant(&mut self, frame: &Frame, wanted: &Term, fuel: usize) -> Option<Term> {
+        let first = self.rng.below(frame.len().max(1));
+        for i in 0..frame.len() {
+            let index = 1 + ((first + i) % frame.len()) as u64;
+            let own = type_of_variable(frame, index);
+            if equivalent(frame, &own, wanted, self.rng) {
+                return Some(Var(index));
+            }
+        }
+        if fuel == 0 {
+            return None;
+        }
+        match wanted {
+            Abs(u, rest) => {
+                let inner = extended(frame, Entry::Single((**u).clone()));
+                let k = self.inhabitant(&inner, rest, fuel - 1)?;
+                return Some(abs((**u).clone(), k));
+            }
+            App(k, rest) => {
+                if let Abs(u, rest) = &**rest {
+                    let inner = extended(frame, Entry::Pair((**k).clone(), (**u).clone()));
+                    let inside = self.inhabitant(&inner, rest, fuel - 1)?;
+                    return Some(app((**k).clone(), abs((**u).clone(), inside)));
+                }
+            }
+            _ => {}
+        }
+        for _ in 0..3 {
+            let head = Var(self.any_index(frame));
+            let spine = self.apply_more(frame, head, fuel - 1);
+            let own = type_of(frame, &spine)?;
+            if equivalent(frame, &own, wanted, self.rng) {
+                return Some(spine);
+            }
+        }
+        None
+    }
+}
+
+fn extended(frame: &Frame, entry: Entry) -> Frame {
+    let mut frame = frame.clone();
+    frame.push(entry);
+    frame
+}
+
+/// What the next applicator before `spine` must fit: the U of the first
+/// abstractor for which nothing waits, after the pairs passed on the way.
+fn domain(frame: &Frame, spine: &Term) -> Option<Term> {
+    let mut r = frame.clone();
+    let mut waiting: Vec<Term> = Vec::new();
+    let mut b = spine.clone();
+    loop {
+        match b {
+            Tau => return None,
+            Var(index) => b = type_of_variable(&r, index),
+            App(k, rest) => {
+                waiting.push(*k);
+                b = *rest;
+            }
+            Abs(u, rest) => {
+                match waiting.pop() {
+                    Some(k) => {
+                        r.push(Entry::Pair(k, *u));
+                        waiting = waiting.iter().map(|k| k.lift(1)).collect();
+                        b = *rest;
+                    }
+                    None => {
+                        let passed = r.split_off(frame.len());
+                        return Some(passed.into_iter().rev().fold(
+                            *u,
+                            |rest, entry| match entry {
+                                Entry::Single(u) => abs(u, rest),
+                                Entry::Pair(k, u) => app(k, abs(u, rest)),
+                            },
+                        ));
+                    }
+                }
+            }
+        }
+        if r.len() > 200 || b.size() > 1000 {
+            return None;
+        }
+    }
+}
+
+// ---------------------------------------------------------------- damage
+
+/// Changes, drops, inserts or repeats bytes, or cuts the end off.
+pub fn damage_bytes(rng: &mut Rng, bytes: &mut Vec<u8>) {
+    for _ in 0..rng.between(1, 2) {
+        if bytes.is_empty() {
+            bytes.push(odd_byte(rng));
+            continue;
+        }
+        let at = rng.below(bytes.len());
+        match rng.below(7) {
+            0 => bytes[at] = odd_byte(rng),
+            1 => bytes[at] = bytes[at].wrapping_add(1),
+            2 => bytes[at] = bytes[at].wrapping_sub(1),
+            3 => {
+                bytes.remove(at);
+            }
+            4 => bytes.insert(at, odd_byte(rng)),
+            5 => bytes.truncate(at),
+            _ => {
+                let end = rng.between(at, bytes.len().min(at + 6));
+                let again = bytes[at..end].to_vec();
+                bytes.splice(at..at, again);
+            }
+        }
+    }
+}
+
+/// Swaps, drops, adds or turns round groups; drops, repeats or changes steps.
+pub fn damage_groups(rng: &mut Rng, groups: &mut Vec<Group>) {
+    if groups.is_empty() {
+        groups.extend(empty_groups(1));
+        return;
+    }
+    let n = groups.len();
+    let with_steps: Vec<usize> = (0..n)
+        .filter(|&i| !groups[i].left.is_empty() || !groups[i].right.is_empty())
+        .collect();
+    let at = if with_steps.is_empty() || rng.below(4) == 0 {
+        rng.below(n)
+    } else {
+        *rng.pick(&with_steps)
+    };
+    match rng.below(12) {
+        0 => groups.swap(at, rng.below(n)),
+        1 => {
+            groups.remove(at);
+        }
+        2 => groups.truncate(at),
+        3 => {
+            let again = groups[at].clone();
+            groups.insert(at, again);
+        }
+        4 => groups.extend(empty_groups(rng.between(1, 3))),
+        5 => {
+            let group = &mut groups[at];
+            std::mem::swap(&mut group.left, &mut group.right);
+        }
+        choice => {
+            let group = &mut groups[at];
+            let steps = if group.right.is_empty() || (!group.left.is_empty() && rng.below(2) == 0) {
+                &mut group.left
+            } else {
+                &mut group.right
+            };
+            if steps.is_empty() {
+                let kind = *rng.pick(&[0, LOCAL, REMOVAL, 3]);
+                steps.push(Step {
+                    kind,
+                    place: rng.below(12),
+                });
+                return;
+            }
+            let i = rng.below(steps.len());
+            match choice {
+                6 => {
+                    steps.remove(i);
+                }
+                7 => {
+                    let again = steps[i];
+                    steps.insert(i, again);
+                }
+                8 => steps[i].place = steps[i].place.wrapping_add(1) & 0xffff,
+                9 => steps[i].place = steps[i].place.wrapping_sub(1) & 0xffff,
+                10 => steps[i].kind = *rng.pick(&[0, 1, 2, 3, 255]),
+                _ => {
+                    let other = rng.below(steps.len());
+                    steps.swap(i, other);
+                }
+            }
+        }
+    }
+}
+
+// ---------------------------------------------------------------- limits
+
+/// `n` abstractors nested inside each other's U: ff ... ff 00 ... 00, of size
+/// 2n + 1, with no place in more than one scope.
+pub fn nested(n: usize) -> Vec<u8> {
+    let mut bytes = vec![0xff; n];
+    bytes.extend(vec![0; n + 1]);
+    bytes
+}
+
+/// `n` times these bytes.
+pub fn times(n: usize, bytes: &[u8]) -> Vec<u8> {
+    bytes.repeat(n)
+}
+
+fn joined(parts: &[&[u8]]) -> Vec<u8> {
+    parts.concat()
+}
+
+/// A bare term at a limit.
+pub fn limit_term(rng: &mut Rng) -> Vec<u8> {
+    match rng.below(8) {
+        // About 4,096 bytes: a train, a nest.
+        0 => {
+            let wagon = *rng.pick(&[0xfe, 0xff]);
+            let mut bytes = if rng.below(2) == 0 {
+                joined(&[&times(2047, &[0xfe, 0]), &[0]])
+            } else {
+                joined(&[&vec![wagon; 2047], &[0; 2048]])
+            };
+            bytes.resize(rng.between(4093, 4099), 0);
+            bytes
+        }
+        // About 253 abstractors in scope, at the top or inside.
+        1 => deep_train(rng),
+        // A type of about 4,096 bytes: [V]1.
+        2 => {
+            let n = rng.between(1020, 1026);
+            joined(&[&[0xff], &nested(n), &[1]])
+        }
+        // A type with about 253 in scope: [m abstractors] n abstractors, variable.
+        3 => {
+            let m = rng.between(1, 250);
+            let n = (253 - m) - rng.below(3).min(252 - m);
+            joined(&[
+                &[0xff],
+                &times(m, &[0xff, 0]),
+                &[0],
+                &times(n.saturating_sub(1), &[0xff, 0]),
+                &[n.max(1) as u8],
+            ])
+        }
+        // A step to about 4,096 bytes: ⟨K⟩[τ] and uses, steps done by the caller.
+        4 => {
+            let n = rng.between(1015, 1030);
+            joined(&[
+                &[0xfe],
+                &nested(n),
+                &[0xff, 0],
+                &[0xff, 1],
+                &nested(n - 2),
+                &[0],
+            ])
+        }
+        // A step with about 253 in scope: ⟨K⟩[τ] n abstractors, use.
+        5 => {
+            let m = rng.between(1, 250);
+            let n = (252 - m) + rng.between(0, 1);
+            joined(&[
+                &[0xfe],
+                &times(m, &[0xff, 0]),
+                &[0, 0xff, 0],
+                &times(n, &[0xff, 0]),
+                &[n as u8 + 1],
+            ])
+        }
+        // A high degree.
+        6 => {
+            let n = rng.between(1, 2047);
+            joined(&[&vec![0xff; n], &[0], &vec![1; n]])
+        }
+        _ => {
+            let size = 2 * rng.between(200, 2047) + 1;
+            closed_term(rng, size).bytes()
+        }
+    }
+}
+
+/// About 253 abstractors in a train, with a variable or τ at its end; bare,
+/// inside a K or inside a U.
+fn deep_train(rng: &mut Rng) -> Vec<u8> {
+    let n = rng.between(252, 255);
+    let deep = joined(&[&times(n, &[0xff, 0]), &[*rng.pick(&[0, 1, 252, 253])]]);
+    match rng.below(3) {
+        0 => deep,
+        1 => joined(&[&[0xfe], &deep, &[0]]),
+        _ => joined(&[&[0xff], &deep, &[0]]),
+    }
+}
+
+/// How many sorts of files at a limit there are.
+pub const LIMIT_SORTS: usize = 17;
+
+/// A file at a limit. Sorts 2, 3, 7 and 15 take the checker long and are made
+/// less often.
+pub fn limit_file(rng: &mut Rng) -> Vec<u8> {
+    let mut sort = rng.below(LIMIT_SORTS);
+    if [2, 3, 7, 15].contains(&sort) && rng.below(3) > 0 {
+        sort = rng.below(LIMIT_SORTS);
+    }
+    limit_file_of(rng, sort)
+}
+
+/// A file at a limit, of this sort.
+pub fn limit_file_of(rng: &mut Rng, sort: usize) -> Vec<u8> {
+    match sort {
+        0 | 1 => {
+            let term = limit_term(rng);
+            let groups = if rng.below(2) == 0 {
+                empty_groups(rng.below(3))
+            } else {
+                Vec::new()
+            };
+            file(&term, &groups)
+        }
+        // State over the bytes: [[V]1]1 has V three times in its last state,
+        // 6n + 7 bytes; declarations before it make up about 8,191.
+        2 => {
+            let n = rng.between(1300, 1363);
+            let before = (8191 - (6 * n + 7)) / 2 + rng.below(2);
+            let term = joined(&[
+                &times(before, &[0xff, 0]),
+                &[0xff, 0xff],
+                &nested(n),
+                &[1, 1],
+            ]);
+            file(&term, &[])
+        }
+        // The same in a longer chain of typings.
+        3 => {
+            let n = rng.between(84, 94);
+            file(&joined(&[&vec![0xff; n], &[0], &vec![1; n]]), &[])
+        }
+        // State over the scopes in copied B: as example 11.
+        4 => {
+            let m = rng.between(1, 251);
+            let n = 253 - m - rng.below(2);
+            let term = joined(&[
+                &[0xff],
+                &times(m, &[0xff, 0]),
+                &[0],
+                &times(n, &[0xff, 0]),
+                &[n as u8 + 1],
+            ]);
+            file(&term, &[])
+        }
+        // Scopes outgrown in W: a deep K waits while pairs are passed.
+        5 => {
+            let m = rng.between(1, 249);
+            let n = 251 - m + rng.below(3);
+            let term = joined(&[
+                &[0xff, 0, 0xfe],
+                &times(m, &[0xff, 0]),
+                &[1],
+                &times(n, &[0xfe, 1, 0xff, 0]),
+                &[0xff],
+                &times(m.min(252 - n), &[0xff, 0]),
+                &[0],
+                &[1],
+            ]);
+            with_groups(rng, &term, n + 1)
+        }
+        // Scopes outgrown in Y: a copied K with m abstractors waits while copied
+        // pairs are passed; its U is a name, so that B is not as deep.
+        6 => {
+            let m = rng.between(20, 100);
+            let pairs = rng.between(3, 60);
+            let deep = times(m, &[0xff, 0]);
+            // [x:τ][y:x]⟨[..m..]x⟩[D:[..m..]τ]
+            let names = joined(&[
+                &[0xff, 0, 0xff, 1, 0xfe],
+                &deep,
+                &[m as u8 + 2, 0xff],
+                &deep,
+                &[0],
+            ]);
+            // ⟨[..m..]y⟩ pairs [D] τ
+            let block = joined(&[
+                &[0xfe],
+                &deep,
+                &[m as u8 + 2, 0xfe, 3, 0xff, 0],
+                &times(pairs - 1, &[0xfe, 1, 0xff, 0]),
+                &[0xff, pairs as u8 + 1, 0],
+            ]);
+            let more = 249 - m - pairs + rng.below(2);
+            let term = joined(&[
+                &names,
+                &[0xff],
+                &block,
+                &times(more, &[0xff, 0]),
+                &[more as u8 + 1],
+            ]);
+            let mut groups = empty_groups(pairs + 2);
+            groups[pairs + 1].right.push(Step {
+                kind: LOCAL,
+                place: 0,
+            });
+            file(&term, &groups)
+        }
+        // Compared body over the bytes by the type of K: ⟨[V]1⟩[τ].
+        7 => {
+            let n = rng.between(1019, 1026);
+            let term = joined(&[&[0xfe, 0xff], &nested(n), &[1, 0xff, 0, 0]]);
+            file(&term, &empty_groups(rng.below(3)))
+        }
+        // Compared body over the scopes by the type of K, which waits while
+        // pairs are passed: [d abstractors, the first with m in its U]
+        // ⟨[n abstractors] variable⟩, pairs, [U].
+        8 => {
+            let d = rng.between(2, 60);
+            let m = rng.between(1, 60);
+            let n = rng.between(1, 60);
+            let pairs = 252 - d - m - n + rng.below(3);
+            let u = if pairs + d + n + m <= 253 {
+                n + m
+            } else {
+                rng.below(2)
+            };
+            let term = joined(&[
+                &[0xff],
+                &times(m, &[0xff, 0]),
+                &[0],
+                &times(d - 1, &[0xff, 0]),
+                &[0xfe],
+                &times(n, &[0xff, 0]),
+                &[(d + n) as u8],
+                &times(pairs, &[0xfe, 1, 0xff, 0]),
+                &[0xff],
+                &times(u, &[0xff, 0]),
+                &[0, 0],
+            ]);
+            with_groups(rng, &term, pairs + 1)
+        }
+        // Compared body over the bytes by a step: 23 copies of 177 bytes make
+        // 4,095, 16 of 255 make 4,097, others lie near.
+        9 => {
+            let (copies, size) = *rng.pick(&[(23, 177), (16, 255), (3, 1363), (3, 1365), (7, 583)]);
+            let (term, mut groups) = stepped_copies(copies, size);
+            if rng.below(8) == 0 {
+                damage_groups(rng, &mut groups);
+            }
+            file(&term, &groups)
+        }
+        // Compared body over the scopes by a step: a definition of type τ with a
+        // pair of m abstractors inside, used under n.
+        10 => {
+            let m = rng.between(1, 120);
+            let n = 249 - m + rng.below(3);
+            let deep = times(m, &[0xff, 0]);
+            let under = |index: usize| joined(&[&times(n, &[0xff, 0]), &[index as u8]]);
+            // [x:τ]⟨⟨[..m..]x⟩[[..m..]τ]x⟩[D:τ][z:[..n..]D]⟨z⟩[[..n..]D]τ
+            let term = joined(&[
+                &[0xff, 0, 0xfe, 0xfe],
+                &deep,
+                &[m as u8 + 1, 0xff],
+                &deep,
+                &[0, 2, 0xff, 0, 0xff],
+                &under(n + 1),
+                &[0xfe, 1, 0xff],
+                &under(n + 2),
+                &[0],
+            ]);
+            let step = vec![Step {
+                kind: LOCAL,
+                place: 2 * n,
+            }];
+            let mut groups = empty_groups(3);
+            groups[1].left.push(Step {
+                kind: REMOVAL,
+                place: 0,
+            });
+            groups[2].left = step.clone();
+            groups[2].right = step;
+            file(&term, &groups)
+        }
+        // About 65,535 bytes of file, with groups to spare or just enough.
+        11 => {
+            let n = rng.between(10_919, 10_922);
+            let mut bytes = file(&[0], &empty_groups(n));
+            if rng.below(2) == 0 {
+                bytes.resize(rng.between(65_530, 65_537), *rng.pick(&[0, 2]));
+            }
+            bytes
+        }
+        // Many comparisons, about the number of groups.
+        12 => {
+            let n = rng.between(1, 252);
+            let term = joined(&[&[0xff, 0], &times(n, &[0xfe, 1, 0xff, 0]), &[1]]);
+            with_groups(rng, &term, n)
+        }
+        // A term field of about 4,096 bytes, at the length's own limits.
+        13 => {
+            let length = *rng.pick(&[4094, 4095, 4096, 4097, 5000, 65_532]);
+            let fill = *rng.pick(&[0, 0xfe, 0xff]);
+            let mut term = vec![fill; length];
+            if fill != 0 && rng.below(2) == 0 {
+                let half = (length - 1) / 2;
+                for byte in &mut term[half..] {
+                    *byte = 0;
+                }
+            }
+            file(&term, &[])
+        }
+        // A long group of steps, none of which can be applied, or all.
+        14 => {
+            if rng.below(2) == 0 {
+                let n = rng.between(1, 21_000);
+                let step = if rng.below(2) == 0 {
+                    [1, 0, 0]
+                } else {
+                    [2, 255, 255]
+                };
+                let mut bytes = field(1, &[0xff, 0, 0xff, 1, 0xfe, 1, 0xff, 2, 1]);
+                bytes.extend(field(2, &times(n, &step)));
+                bytes.extend(field(3, &[]));
+                return bytes;
+            }
+            let chain = rng.between(1, 230);
+            let uses = rng.between(1, 21_700 / chain).min(60);
+            let (term, mut groups) = long_unfolding(chain, uses);
+            match rng.below(6) {
+                0 => {
+                    groups[chain].left.pop();
+                }
+                1 => groups[chain].left.push(Step {
+                    kind: LOCAL,
+                    place: uses - 1,
+                }),
+                _ => {}
+            }
+            file(&term, &groups)
+        }
+        // State over the bytes with a copied pair: [V][⟨1⟩[V]1]1 where V is [X]1
+        // has 5 times X in its last state, 10n + 21 bytes.
+        15 => {
+            let n = rng.between(780, 816);
+            let before = (8191 - (10 * n + 21)) / 2 + rng.below(2);
+            let v = joined(&[&[0xff], &nested(n), &[1]]);
+            let term = joined(&[
+                &times(before, &[0xff, 0]),
+                &[0xff],
+                &v,
+                &[0xff, 0xfe, 1, 0xff],
+                &v,
+                &[1, 1],
+            ]);
+            file(&term, &empty_groups(1))
+        }
+        // About 253 abstractors in the term itself.
+        _ => file(&deep_train(rng), &[]),
+    }
+}
+
+/// The term with `n` empty groups, sometimes one fewer or more.
+fn with_groups(rng: &mut Rng, term: &[u8], n: usize) -> Vec<u8> {
+    let n = match rng.below(6) {
+        0 => n - 1,
+        1 => n + 1,
+        _ => n,
+    };
+    file(term, &empty_groups(n))
+}
+
+/// Under [x:τ] a definition D = [V]x of `size` bytes with type [V]τ, a
+/// declaration of [D][D]...τ with `copies` times D, and a definition of the
+/// same type; every D is replaced on both sides.
+pub fn stepped_copies(copies: usize, size: usize) -> (Vec<u8>, Vec<Group>) {
+    let v = nested((size - 3) / 2);
+    let uses = |first: u8| -> Vec<u8> {
+        let mut bytes: Vec<u8> = (0..copies as u8).flat_map(|i| [0xff, first + i]).collect();
+        bytes.push(0);
+        bytes
+    };
+    let term = joined(&[
+        &[0xff, 0, 0xfe, 0xff],
+        &v,
+        &[2, 0xff, 0xff],
+        &v,
+        &[0, 0xff],
+        &uses(1),
+        &[0xfe, 1, 0xff],
+        &uses(2),
+        &[1],
+    ]);
+    let steps: Vec<Step> = (0..copies)
+        .map(|i| Step {
+            kind: LOCAL,
+            place: 1 + i * (size + 1),
+        })
+        .collect();
+    let mut groups = empty_groups(2);
+    groups[1].left = steps.clone();
+    groups[1].right = steps;
+    (term, groups)
+}
+
+/// Under [x:τ] a chain of definitions, each a name for the one before, a
+/// declaration of a type with `uses` times the last name, and a definition of
+/// that type with x for the name: `chain` times `uses` left steps.
+pub fn long_unfolding(chain: usize, uses: usize) -> (Vec<u8>, Vec<Group>) {
+    let nest = uses - 1;
+    let with_name = |index: u8| joined(&[&vec![0xff; nest], &[index], &vec![index + 1; nest]]);
+    let term = joined(&[
+        &[0xff, 0],
+        &times(chain, &[0xfe, 1, 0xff, 0]),
+        &[0xff],
+        &with_name(1),
+        &[0xfe, 1, 0xff],
+        &with_name(chain as u8 + 2),
+        &[1],
+    ]);
+    let mut groups = empty_groups(chain + 1);
+    for place in nest..=2 * nest {
+        groups[chain]
+            .left
+            .extend(vec![Step { kind: LOCAL, place }; chain]);
+    }
+    (term, groups)
+}
+
+// ------------------------------------------------------------- all files
+
+/// A random file of any sort.
+pub fn random_file(rng: &mut Rng) -> Vec<u8> {
+    match rng.below(100) {
+        0..=39 => {
+            let term = text(rng);
+            let groups = groups_for(&term, rng);
+            file(&term.bytes(), &groups)
+        }
+        40..=57 => {
+            let term = text(rng);
+            let mut groups = groups_for(&term, rng);
+            for _ in 0..rng.between(1, 2) {
+                damage_groups(rng, &mut groups);
+            }
+            file(&term.bytes(), &groups)
+        }
+        58..=67 => {
+            // A damaged term that may still be one, with groups of its own.
+            let mut bytes = text(rng).bytes();
+            if rng.below(3) == 0 {
+                damage_bytes(rng, &mut bytes);
+            } else {
+                let at = rng.below(bytes.len());
+                bytes[at] = match bytes[at] {
+                    0xfe => 0xff,
+                    0xff => 0xfe,
+                    0 => 1 + rng.below(3) as u8,
+                    _ => rng.below(4) as u8,
+                };
+            }
+            let groups = match read_term(&bytes) {
+                Ok(term) => groups_for(&term, rng),
+                Err(_) => empty_groups(rng.below(3)),
+            };
+            file(&bytes, &groups)
+        }
+        68..=77 => {
+            let term = text(rng);
+            let groups = groups_for(&term, rng);
+            let mut bytes = file(&term.bytes(), &groups);
+            damage_bytes(rng, &mut bytes);
+            bytes
+        }
+        78..=84 => {
+            let size = 2 * rng.below(30) + 1;
+            let term = closed_term(rng, size);
+            let groups = groups_for(&term, rng);
+            file(&term.bytes(), &groups)
+        }
+        85..=96 => limit_file(rng),
+        _ => {
+            let mut bytes: Vec<u8> = (0..rng.below(24)).map(|_| odd_byte(rng)).collect();
+            if rng.below(2) == 0 {
+                bytes.splice(0..0, [1, 0, rng.below(12) as u8]);
+            }
+            bytes
+        }
+    }
+}

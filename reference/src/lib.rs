@@ -1,0 +1,209 @@
+//! A reference implementation of the checker of document 01 ("Delta-Lambda
+//! checking with supplied reductions"), written for clarity alone: terms are
+//! trees, the lists are lifted literally and every state is measured anew.
+
+pub mod file;
+pub mod frame;
+pub mod gen;
+pub mod normaliser;
+pub mod refusal;
+pub mod stack;
+pub mod term;
+pub mod walk;
+
+use file::{read_fields, Fields};
+use frame::{apply, body_outgrown, type_of, Frame, Step};
+use refusal::*;
+use stack::on_large_stack;
+use std::ops::Range;
+use term::{read_term, Term};
+
+#[derive(Clone, Copy, PartialEq, Eq, Debug)]
+pub struct TermAnswer {
+    pub number: u8,
+    pub place: usize,
+    /// 0 if refused.
+    pub degree: u64,
+}
+
+#[derive(Clone, PartialEq, Eq, Debug)]
+pub struct FileAnswer {
+    pub number: u8,
+    pub place: usize,
+    /// The term's part of the file; 0..0 if refused.
+    pub part: Range<usize>,
+}
+
+#[derive(Clone, Copy, PartialEq, Eq, Debug)]
+pub enum TypeAnswer {
+    /// The term has degree 1.
+    None_,
+    Answer {
+        number: u8,
+        place: usize,
+        len: usize,
+    },
+}
+
+#[derive(Clone, Copy, PartialEq, Eq, Debug)]
+pub struct StepAnswer {
+    pub number: u8,
+    pub place: usize,
+    /// 0 if refused.
+    pub len: usize,
+}
+
+#[derive(Clone, Copy, PartialEq, Eq, Debug)]
+pub struct CheckAnswer {
+    pub number: u8,
+    pub place: usize,
+    /// Comparisons completed.
+    pub comparisons: usize,
+    /// Of the whole term; 0 for numbers 1 to 6.
+    pub degree: u64,
+}
+
+/// Examines a bare term.
+pub fn examine_term(bytes: &[u8]) -> TermAnswer {
+    on_large_stack(|| match read_term(bytes) {
+        Ok(term) => TermAnswer {
+            number: 0,
+            place: 0,
+            degree: term.degree(),
+        },
+        Err(Refusal { number, place }) => TermAnswer {
+            number,
+            place,
+            degree: 0,
+        },
+    })
+}
+
+/// Examines a file: conditions 1 to 6.
+pub fn examine_file(bytes: &[u8]) -> FileAnswer {
+    on_large_stack(|| match read_file(bytes) {
+        Ok((fields, _)) => FileAnswer {
+            number: 0,
+            place: 0,
+            part: fields.term,
+        },
+        Err(Refusal { number, place }) => FileAnswer {
+            number,
+            place,
+            part: 0..0,
+        },
+    })
+}
+
+/// Writes the type of a bare term at the buffer's start.
+pub fn write_type(bytes: &[u8], buffer: &mut [u8]) -> TypeAnswer {
+    on_large_stack(|| {
+        let empty = Frame::new();
+        let written = match read_term(bytes) {
+            Err(refusal) => Err(refusal),
+            Ok(term) => match type_of(&empty, &term) {
+                None => return TypeAnswer::None_,
+                Some(result) => write_result(&result, buffer),
+            },
+        };
+        match written {
+            Ok(len) => TypeAnswer::Answer {
+                number: 0,
+                place: 0,
+                len,
+            },
+            Err(Refusal { number, place }) => TypeAnswer::Answer {
+                number,
+                place,
+                len: 0,
+            },
+        }
+    })
+}
+
+/// Applies one step to a bare term, writing the result at the buffer's start.
+pub fn apply_step(bytes: &[u8], kind: u8, place: u16, buffer: &mut [u8]) -> StepAnswer {
+    on_large_stack(|| {
+        let step = Step {
+            kind,
+            place: usize::from(place),
+        };
+        let written = match read_term(bytes) {
+            Err(refusal) => Err(refusal),
+            Ok(term) => match apply(&Frame::new(), &term, step) {
+                None => refuse(BAD_STEP, 0),
+                Some(result) => write_result(&result, buffer),
+            },
+        };
+        match written {
+            Ok(len) => StepAnswer {
+                number: 0,
+                place: 0,
+                len,
+            },
+            Err(Refusal { number, place }) => StepAnswer {
+                number,
+                place,
+                len: 0,
+            },
+        }
+    })
+}
+
+/// Checks a file.
+pub fn check(bytes: &[u8]) -> CheckAnswer {
+    on_large_stack(|| {
+        let (fields, term) = match read_file(bytes) {
+            Ok(read) => read,
+            Err(Refusal { number, place }) => {
+                return CheckAnswer {
+                    number,
+                    place,
+                    comparisons: 0,
+                    degree: 0,
+                };
+            }
+        };
+        let degree = term.degree();
+        let mut unused = fields.groups.iter();
+        let (comparisons, end) = walk::walk(&term, &mut |_, _, _| unused.next().cloned());
+        let end = match (end, unused.next()) {
+            (Ok(()), Some(group)) => refuse(GROUPS_LEFT, group.head),
+            (end, _) => end,
+        };
+        match end {
+            Ok(()) => CheckAnswer {
+                number: 0,
+                place: 0,
+                comparisons,
+                degree,
+            },
+            Err(Refusal { number, place }) => CheckAnswer {
+                number,
+                place,
+                comparisons,
+                degree,
+            },
+        }
+    })
+}
+
+/// Conditions 1 to 6 of a file.
+fn read_file(bytes: &[u8]) -> Result<(Fields, Term), Refusal> {
+    let fields = read_fields(bytes)?;
+    let term = read_term(&bytes[fields.term.clone()])?;
+    Ok((fields, term))
+}
+
+/// Conditions 11 and 14 of a written result, then its bytes; gives the length.
+fn write_result(result: &Term, buffer: &mut [u8]) -> Result<usize, Refusal> {
+    if body_outgrown(&Frame::new(), result) {
+        return refuse(OUTGROWN, 0);
+    }
+    let bytes = result.bytes();
+    if buffer.len() < bytes.len() {
+        return refuse(SHORT_BUFFER, 0);
+    }
+    buffer[..bytes.len()].copy_from_slice(&bytes);
+    Ok(bytes.len())
+}

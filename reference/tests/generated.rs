@@ -1,0 +1,208 @@
+//! Properties of generated terms and files.
+
+mod common;
+use common::*;
+use reference::file::read_fields;
+use reference::gen::*;
+use reference::normaliser::groups_for;
+use reference::refusal::*;
+use reference::stack::on_large_stack;
+use reference::term::read_term;
+use reference::*;
+
+/// Texts correct by construction are accepted with the steps found, each
+/// group used once; with the last group left out they are refused by 9.
+#[test]
+fn texts_are_accepted() {
+    on_large_stack(|| {
+        let mut rng = Rng::new(2024);
+        for _ in 0..600 {
+            let term = text(&mut rng);
+            let groups = groups_for(&term, &mut rng);
+            let a = check(&file(&term.bytes(), &groups));
+            assert_eq!(
+                (a.number, a.place, a.comparisons),
+                (0, 0, groups.len()),
+                "{:02x?}",
+                term.bytes()
+            );
+            assert_eq!(a.degree, term.degree());
+            if let Some((_, fewer)) = groups.split_last() {
+                let a = check(&file(&term.bytes(), fewer));
+                assert_eq!((a.number, a.comparisons), (NO_GROUP, fewer.len()));
+            }
+            let more = [groups.clone(), empty_groups(1)].concat();
+            let a = check(&file(&term.bytes(), &more));
+            assert_eq!((a.number, a.comparisons), (GROUPS_LEFT, groups.len()));
+            assert_eq!(a.place, file(&term.bytes(), &groups).len());
+        }
+    });
+}
+
+/// 001, 3.9: the type's degree is one less; the type of a correct text is
+/// correct.
+#[test]
+fn types_of_texts() {
+    on_large_stack(|| {
+        let mut rng = Rng::new(39);
+        let mut done = 0;
+        for _ in 0..400 {
+            let term = text(&mut rng);
+            let (answer, buffer) = typed(&term.bytes(), 4096);
+            let TypeAnswer::Answer { number, len, .. } = answer else {
+                assert_eq!(term.degree(), 1);
+                continue;
+            };
+            if number != 0 {
+                assert_eq!(number, OUTGROWN);
+                continue;
+            }
+            let bytes = &buffer[..len];
+            assert_eq!(examined(bytes), (0, 0, term.degree() - 1));
+            let groups = groups_for(&read_term(bytes).unwrap(), &mut rng);
+            let a = check(&file(bytes, &groups));
+            assert!(a.number == 0 || a.number == OUTGROWN, "{a:?} {bytes:02x?}");
+            done += 1;
+        }
+        assert!(done > 100);
+    });
+}
+
+/// A step keeps the degree or refuses; a step on a correct text leaves a
+/// correct one.
+#[test]
+fn steps_of_texts() {
+    on_large_stack(|| {
+        let mut rng = Rng::new(47);
+        let mut done = 0;
+        for _ in 0..600 {
+            let term = text(&mut rng).bytes();
+            let (kind, place) = step_for(&mut rng, &term);
+            let (a, buffer) = stepped(&term, kind, place, 4096);
+            if a.0 != 0 {
+                assert!(a == (BAD_STEP, 0, 0) || a == (OUTGROWN, 0, 0));
+                assert_eq!(buffer, untouched(4096));
+                continue;
+            }
+            let bytes = &buffer[..a.2];
+            assert_eq!(examined(bytes), examined(&term));
+            assert!(buffer[a.2..].iter().all(|&byte| byte == 0xaa));
+            let groups = groups_for(&read_term(bytes).unwrap(), &mut rng);
+            let checked = check(&file(bytes, &groups));
+            assert!(
+                checked.number == 0 || checked.number == OUTGROWN,
+                "{checked:?} {bytes:02x?}"
+            );
+            done += 1;
+        }
+        assert!(done > 200);
+    });
+}
+
+/// Lifting has its laws.
+#[test]
+fn lifting() {
+    on_large_stack(|| {
+        let mut rng = Rng::new(11);
+        for _ in 0..500 {
+            let size = 2 * rng.below(40) + 1;
+            let closed = closed_term(&mut rng, size);
+            assert_eq!(closed.lift(7), closed);
+            // The rest after an abstractor is an open term.
+            if let reference::term::Term::Abs(_, open) = &closed {
+                assert_eq!(open.lift(0), **open);
+                assert_eq!(open.lift(2).lift(3), open.lift(5));
+                assert_eq!(open.lift(1).size(), open.size());
+                assert_eq!(open.lift(1).without(1), **open);
+                assert!(!open.lift(1).uses(1));
+            }
+        }
+    });
+}
+
+/// Reading and writing undo each other.
+#[test]
+fn bytes_and_terms() {
+    on_large_stack(|| {
+        let mut rng = Rng::new(12);
+        for _ in 0..500 {
+            let size = 2 * rng.below(300) + 1;
+            let term = closed_term(&mut rng, size);
+            assert_eq!(term.size(), size);
+            let bytes = term.bytes();
+            assert_eq!(bytes.len(), size);
+            assert_eq!(read_term(&bytes), Ok(term));
+        }
+    });
+}
+
+/// What holds of every answer, and every number from 0 to 13 among them.
+#[test]
+fn random_files() {
+    on_large_stack(|| {
+        let mut rng = Rng::new(5);
+        let mut seen = [0; 15];
+        for _ in 0..2000 {
+            let bytes = random_file(&mut rng);
+            let a = check(&bytes);
+            seen[usize::from(a.number)] += 1;
+            let (number, place, part) = file_examined(&bytes);
+            if (1..=6).contains(&a.number) {
+                assert_eq!((number, place, part), (a.number, a.place, 0..0));
+                assert_eq!((a.comparisons, a.degree), (0, 0));
+                continue;
+            }
+            assert_eq!((number, place), (0, 0));
+            let term = &bytes[part];
+            assert_eq!(examined(term), (0, 0, a.degree));
+            let groups = read_fields(&bytes).unwrap().groups.len();
+            let applicators = term.iter().filter(|&&byte| byte == 0xfe).count();
+            assert!(a.comparisons <= groups.min(applicators));
+            match a.number {
+                0 => assert_eq!((a.place, a.comparisons), (0, groups)),
+                GROUPS_LEFT => assert_eq!(bytes[a.place], 2),
+                OUTGROWN => assert!(a.place < term.len()),
+                _ => assert_eq!(term[a.place], 0xfe),
+            }
+        }
+        assert!(seen[..14].iter().all(|&n| n > 0), "{seen:?}");
+        assert_eq!(seen[14], 0);
+    });
+}
+
+/// Every sort of limit file has answers on both sides of its limit.
+#[test]
+fn limits() {
+    on_large_stack(|| {
+        let mut rng = Rng::new(6);
+        for sort in 2..LIMIT_SORTS {
+            let mut seen = [0; 15];
+            for _ in 0..20 {
+                seen[usize::from(check(&limit_file_of(&mut rng, sort)).number)] += 1;
+            }
+            match sort {
+                2..=10 | 15 => {
+                    assert!(seen[11] > 0 && seen[11] < 20, "sort {sort}: {seen:?}");
+                }
+                16 => assert!(seen[6] > 0 && seen[6] < 20, "sort {sort}: {seen:?}"),
+                11 | 13 => assert!(seen[4] > 0 && seen[4] < 20, "sort {sort}: {seen:?}"),
+                _ => {}
+            }
+        }
+    });
+}
+
+/// One seed, one file.
+#[test]
+fn the_seed_decides() {
+    on_large_stack(|| {
+        let (mut a, mut b) = (Rng::new(77), Rng::new(77));
+        for _ in 0..50 {
+            assert_eq!(random_file(&mut a), random_file(&mut b));
+        }
+    });
+    // splitmix64's first numbers from 0 are known.
+    let mut rng = Rng::new(0);
+    assert_eq!(rng.next_u64(), 0xe220a8397b1dcdaf);
+    assert_eq!(rng.next_u64(), 0x6e789e6aa1b965f4);
+}
