@@ -16,24 +16,24 @@ use Rattle.calculus.proofs.Closed.{closed-suc}
 use Rattle.calculus.proofs.Demand.{asks-inj, stops-inj, asks-stops}
 
 -- each U is closed at its place: all that a walk asks of a frame
-data Domains : Frame → Type 0 where
+pub data Domains : Frame → Type 0 where
   no-domain : Domains ε
   domain-too : {R : Frame} {e : Entry} → Domains R → Closed (depth R) (domain e) → Domains (R ▹ e)
 
-domains : {R : Frame} → ClosedFrame R → Domains R
+pub domains : {R : Frame} → ClosedFrame R → Domains R
 unfolding domain
 domains closed-empty = no-domain
 domains (closed-entry r (closed-single u)) = domain-too {e = single _} (domains r) u
 domains (closed-entry r (closed-pair {K = K} {U = U} k u)) = domain-too {e = pair K U} (domains r) u
 
-domain-at : {R : Frame} (k : ℕ) {e : Entry} → Domains R → entryAt R k ≡ some e → Closed (depth R) (lift k 0 (domain e))
+pub domain-at : {R : Frame} (k : ℕ) {e : Entry} → Domains R → entryAt R k ≡ some e → Closed (depth R) (lift k 0 (domain e))
 unfolding entryAt depth
 domain-at k no-domain h = no-some h
 domain-at zero (domain-too d u) h = no-some h
 domain-at (suc zero) (domain-too d u) h = rw (← some-inj h) (closed-suc u)
 domain-at (suc (suc k)) {e} (domain-too d u) h = rw (lift-suc (suc k) (domain e)) (closed-suc (domain-at (suc k) d h))
 
-bound-entry : (R : Frame) (k : ℕ) → 1 ≤ k → k ≤ depth R → entryAt R k ≡ none → ⊥
+pub bound-entry : (R : Frame) (k : ℕ) → 1 ≤ k → k ≤ depth R → entryAt R k ≡ none → ⊥
 unfolding entryAt depth
 bound-entry ε k p q h = omega arith
 bound-entry (R ▹ e) zero p q h = omega arith

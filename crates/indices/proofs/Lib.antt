@@ -1,0 +1,10 @@
+-- The laws of this crate.
+-- Assumes nothing.
+pub mod Tests
+pub mod Stacked
+pub mod Pending
+pub mod Walk
+pub mod Pass
+pub mod Lowering
+pub mod Places
+pub mod Replace

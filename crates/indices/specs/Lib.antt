@@ -1,0 +1,5 @@
+-- The definitions and contracts of this crate.
+-- Assumes nothing.
+pub mod Shift
+pub mod Stack
+pub mod Passes
