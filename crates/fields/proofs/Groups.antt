@@ -11,7 +11,8 @@ use borrow.Author.Tests.{leb-true, ltb-false}
 use Rattle.fields.specs.declared.Field.{Field}
 use Rattle.fields.specs.declared.Field.the-variants.{End}
 use Rattle.fields.specs.declared.Layout.{Layout}
-use Rattle.fields.specs.Fields.{file-limit, bodyEnd, stepOf, stepsFrom, steps, GroupAt, spanAt, groupAt}
+use Rattle.fields.specs.Fields.{bodyEnd, stepOf, stepsFrom, steps, GroupAt, spanAt, groupAt}
+use Rattle.code.specs.Limits.{longestFile}
 use Rattle.fields.specs.Fields.{Fields, refused, accepted, thenFields, withGroup, groupsFrom, readFile, layoutOf, termBytes}
 use Rattle.fields.specs.Fields.{Whole, GroupHere, Groups, done, more, StepRange, First, SpanOf}
 use Rattle.fields.specs.Claims.{Accepted, AcceptedLayout}
@@ -84,17 +85,17 @@ data FileView (s : List ℕ) : Fields → Type 0 where
 
 file-view : (s : List ℕ) → FileView s (readFile s)
 unfolding readFile thenFields
-file-view s = go (ltb file-limit (length s)) refl (field-view 1 1 s 0)
+file-view s = go (ltb longestFile (length s)) refl (field-view 1 1 s 0)
   where
-    after : {e : ℕ} → length s ≤ file-limit → e ≡ bodyEnd s 0 → Whole 1 1 s 0 → {F : Fields} → GroupsView s e e F → FileView s F
+    after : {e : ℕ} → length s ≤ longestFile → e ≡ bodyEnd s 0 → Whole 1 1 s 0 → {F : Fields} → GroupsView s e e F → FileView s F
     after l q w (bad h) = bad h
     after l q w (good r) = good (record { fits = l; term = w; ends = q; groups = r })
 
-    go : (b : Bool) → ltb file-limit (length s) ≡ b → {f : Field} → FieldView 1 1 s 0 f
+    go : (b : Bool) → ltb longestFile (length s) ≡ b → {f : Field} → FieldView 1 1 s 0 f
         → FileView s (cond b (refused 4 0) (thenFields f (λ e. groupsFrom (length s) s e e)))
     go true q v = bad {n = 4} (omega arith)
     go false q (fault h) = bad h
-    go false q (whole {e = e} r w) = after (ltb-false file-limit (length s) q) r w (groups-view (length s) s e e (omega arith) (omega (arith, w .body)))
+    go false q (whole {e = e} r w) = after (ltb-false longestFile (length s) q) r w (groups-view (length s) s e e (omega arith) (omega (arith, w .body)))
 
 -- All the groups that stand are read.
 groups-read : {s : List ℕ} {e at : ℕ} {gs : List GroupAt} (k : ℕ) → length s ≤ k + at → Groups s at gs → groupsFrom k s e at ≡ accepted e gs

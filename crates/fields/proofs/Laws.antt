@@ -10,7 +10,8 @@ use lib.Dec.{leb, ltb, eqb}
 use borrow.Author.Tests.{ltb-false, eqb-true, lt-ltb, le-ltb, le-leb, lt-leb, eq-eqb, ne-eqb}
 use Rattle.fields.specs.declared.Field.{Field}
 use Rattle.fields.specs.declared.Field.the-variants.{Fault, End}
-use Rattle.fields.specs.Fields.{file-limit, readFile, word, bodyEnd, fieldAt, thenField, groupEnd, GroupAt, spanAt, groupAt, Fields, refused, accepted}
+use Rattle.fields.specs.Fields.{readFile, word, bodyEnd, fieldAt, thenField, groupEnd, GroupAt, spanAt, groupAt, Fields, refused, accepted}
+use Rattle.code.specs.Limits.{longestFile}
 use Rattle.fields.specs.Fields.{thenFields, withGroup, groupsFrom, layoutWith, Whole, GroupHere}
 
 -- One field.
@@ -152,14 +153,14 @@ layout-group n g (refused k p) = refl
 layout-group n g (accepted e gs) = let q : n + suc (length gs) ≡ n + 1 + length gs = omega arith in rw q
 
 -- The file.
-pub too-long : (s : List ℕ) → file-limit < length s → readFile s ≡ refused 4 0
+pub too-long : (s : List ℕ) → longestFile < length s → readFile s ≡ refused 4 0
 unfolding readFile
 too-long s h = simp (lt-ltb _ _ h)
 
-pub term-fault : {n p : ℕ} (s : List ℕ) → length s ≤ file-limit → fieldAt 1 1 s 0 ≡ Fault n p → readFile s ≡ refused n p
+pub term-fault : {n p : ℕ} (s : List ℕ) → length s ≤ longestFile → fieldAt 1 1 s 0 ≡ Fault n p → readFile s ≡ refused n p
 unfolding readFile thenFields
 term-fault s h q = rw (le-ltb _ _ h, q)
 
-pub term-end : {e : ℕ} (s : List ℕ) → length s ≤ file-limit → fieldAt 1 1 s 0 ≡ End e → readFile s ≡ groupsFrom (length s) s e e
+pub term-end : {e : ℕ} (s : List ℕ) → length s ≤ longestFile → fieldAt 1 1 s 0 ≡ End e → readFile s ≡ groupsFrom (length s) s e e
 unfolding readFile thenFields
 term-end s h q = rw (le-ltb _ _ h, q)

@@ -10,9 +10,10 @@ use lib.ListN.{length, getD, take, drop, length-append, length-take, length-drop
 use lib.Seq.{drop-cons, getD-drop, drop-drop, take-append-seam, drop-append-seam}
 use Rattle.calculus.specs.Steps.{Step}
 use Rattle.calculus.specs.Rules.{Group}
-use Rattle.fields.specs.Fields.{file-limit, word, bodyEnd, stepOf, stepsFrom, steps, GroupAt, spanAt, groupAt, groupIn, accepted, readFile, termBytes}
+use Rattle.fields.specs.Fields.{word, bodyEnd, stepOf, stepsFrom, steps, GroupAt, spanAt, groupAt, groupIn, accepted, readFile, termBytes}
+use Rattle.code.specs.Limits.{longestFile}
 use Rattle.fields.specs.Fields.{Whole, GroupHere, Groups, done, more}
-use Rattle.fields.specs.Files.{writeField, writeSteps, writeGroups, writeFile, placed, Bytes, StepsFit, none, step, GroupsFit, group}
+use Rattle.fields.specs.Files.{writeField, writeSteps, writeGroups, writeFile, placed, InBytes, StepsFit, none, step, GroupsFit, group}
 use Rattle.fields.specs.Claims.{Accepted}
 use Rattle.fields.proofs.Groups.{accepts, accepted-only}
 
@@ -97,7 +98,7 @@ groups-there (g ∷ gs) {s = s} {at = at} i h =
     let q : groupAt s at ≡ record { head = at; group = g } = λ i. record { head = at; group = record { left = x .back i; right = y .back i } } in
     subst₂ (λ (z : GroupAt) (k : ℕ). Groups s at (z ∷ placed k gs)) q n (more here (groups-there gs (here .right .body) (r .rest)))
 
-pub read-back : (b : List ℕ) (gs : List Group) → length (writeFile b gs) ≤ file-limit
+pub read-back : (b : List ℕ) (gs : List Group) → length (writeFile b gs) ≤ longestFile
     → readFile (writeFile b gs) ≡ accepted (3 + length b) (placed (3 + length b) gs)
 unfolding writeFile
 read-back b gs h =
@@ -117,7 +118,7 @@ same-groups at [] = refl
 same-groups at (g ∷ gs) = ap (λ (l : List Group). g ∷ l) (same-groups _ gs)
 
 -- An accepted file is one that is written.
-module _ (s : List ℕ) (small : Bytes s) where
+module _ (s : List ℕ) (small : InBytes s) where
   one-byte : (at : ℕ) → at < length s → drop at s ≡ getD s at 0 ∷ drop (at + 1) s
   one-byte at h = rw add-one (drop-cons s at 0 h)
 
@@ -172,7 +173,7 @@ module _ (s : List ℕ) (small : Bytes s) where
   groups-fit (done q) = none
   groups-fit (more g r) = group (steps-fit _ _) (steps-fit _ _) (groups-fit r)
 
-pub only-written : {s : List ℕ} {e : ℕ} {gs : List GroupAt} → Bytes s → readFile s ≡ accepted e gs
+pub only-written : {s : List ℕ} {e : ℕ} {gs : List GroupAt} → InBytes s → readFile s ≡ accepted e gs
     → s ≡ writeFile (termBytes s e) (map (λ (g : GroupAt). g .group) gs)
 unfolding writeFile
 only-written {s = s} {e = e} b h =
@@ -181,30 +182,30 @@ only-written {s = s} {e = e} b h =
     field-only s b (termBytes s e) (a .term) (rw n)
     ∙ ap (λ (l : List ℕ). writeField 1 (termBytes s e) ++ l) (ap (λ (k : ℕ). drop k s) (sym (a .ends)) ∙ groups-only s b (a .groups))
 
-pub fitting : {s : List ℕ} {e : ℕ} {gs : List GroupAt} → Bytes s → readFile s ≡ accepted e gs → GroupsFit (map (λ (g : GroupAt). g .group) gs)
+pub fitting : {s : List ℕ} {e : ℕ} {gs : List GroupAt} → InBytes s → readFile s ≡ accepted e gs → GroupsFit (map (λ (g : GroupAt). g .group) gs)
 fitting {s = s} b h = groups-fit s b (accepted-only s h .groups)
 
 -- What is written is bytes.
-byte-more : {x : ℕ} {s : List ℕ} → x < 256 → Bytes s → Bytes (x ∷ s)
+byte-more : {x : ℕ} {s : List ℕ} → x < 256 → InBytes s → InBytes (x ∷ s)
 byte-more {x = x} {s = s} h b = record { small = go }
   where
     go : (i : ℕ) → getD (x ∷ s) i 0 < 256
     go zero = h
     go (suc i) = b .small i
 
-bytes-append : (a : List ℕ) {b : List ℕ} → Bytes a → Bytes b → Bytes (a ++ b)
+bytes-append : (a : List ℕ) {b : List ℕ} → InBytes a → InBytes b → InBytes (a ++ b)
 bytes-append [] p q = q
 bytes-append (x ∷ a) p q = byte-more (p .small 0) (bytes-append a (record { small = λ i. p .small (suc i) }) q)
 
-field-bytes : (tag : ℕ) (b : List ℕ) {w : List ℕ} → tag < 256 → length b < 65536 → Bytes b → Bytes w → Bytes (writeField tag b ++ w)
+field-bytes : (tag : ℕ) (b : List ℕ) {w : List ℕ} → tag < 256 → length b < 65536 → InBytes b → InBytes w → InBytes (writeField tag b ++ w)
 field-bytes tag b t l p q = byte-more t (byte-more (omega arith) (byte-more (omega arith) (bytes-append b p q)))
 
-steps-bytes : {xs : List Step} → StepsFit xs → Bytes (writeSteps xs)
+steps-bytes : {xs : List Step} → StepsFit xs → InBytes (writeSteps xs)
 unfolding writeSteps
 steps-bytes none = record { small = λ i. omega arith }
 steps-bytes (step k p r) = byte-more k (byte-more (omega arith) (byte-more (omega arith) (steps-bytes r)))
 
-groups-bytes : {gs : List Group} → length (writeGroups gs) ≤ file-limit → GroupsFit gs → Bytes (writeGroups gs)
+groups-bytes : {gs : List Group} → length (writeGroups gs) ≤ longestFile → GroupsFit gs → InBytes (writeGroups gs)
 unfolding writeGroups
 groups-bytes h none = record { small = λ i. omega arith }
 groups-bytes h (group {g = g} {gs = gs} l r f) =
@@ -214,7 +215,7 @@ groups-bytes h (group {g = g} {gs = gs} l r f) =
     let m = length-append b (writeGroups gs) in
     field-bytes 2 a (omega arith) (omega arith) (steps-bytes l) (field-bytes 3 b (omega arith) (omega arith) (steps-bytes r) (groups-bytes (omega arith) f))
 
-pub in-bytes : (b : List ℕ) (gs : List Group) → length (writeFile b gs) ≤ file-limit → Bytes b → GroupsFit gs → Bytes (writeFile b gs)
+pub in-bytes : (b : List ℕ) (gs : List Group) → length (writeFile b gs) ≤ longestFile → InBytes b → GroupsFit gs → InBytes (writeFile b gs)
 unfolding writeFile
 in-bytes b gs h p f =
     let n = length-append b (writeGroups gs) in

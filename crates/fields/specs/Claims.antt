@@ -7,13 +7,14 @@ use mathlib.Core.List.{List, [], _∷_, map}
 use lib.ListN.{length}
 use Rattle.calculus.specs.Rules.{Group}
 use Rattle.fields.specs.declared.Layout.{Layout}
-use Rattle.fields.specs.Fields.{file-limit, bodyEnd, stepOf, steps, GroupAt, refused, accepted}
+use Rattle.fields.specs.Fields.{bodyEnd, stepOf, steps, GroupAt, refused, accepted}
+use Rattle.code.specs.Limits.{longestFile}
 use Rattle.fields.specs.Fields.{readFile, layoutOf, termBytes, Whole, GroupHere, Groups, StepRange}
-use Rattle.fields.specs.Files.{writeFile, placed, Bytes, GroupsFit}
+use Rattle.fields.specs.Files.{writeFile, placed, InBytes, GroupsFit}
 
 -- The file s has its term's body up to e and the groups gs.
 pub record Accepted (s : List ℕ) (e : ℕ) (gs : List GroupAt) : Type 0 where
-  pub fits : length s ≤ file-limit
+  pub fits : length s ≤ longestFile
   pub term : Whole 1 1 s 0
   pub ends : e ≡ bodyEnd s 0
   pub groups : Groups s e gs
@@ -43,10 +44,10 @@ pub record Reading : Type 0 where
 
 -- 2. A file that is written is read back; and every accepted file is one that is written.
 pub record Writing : Type 0 where
-  pub read-back : (b : List ℕ) (gs : List Group) → length (writeFile b gs) ≤ file-limit
+  pub read-back : (b : List ℕ) (gs : List Group) → length (writeFile b gs) ≤ longestFile
       → readFile (writeFile b gs) ≡ accepted (3 + length b) (placed (3 + length b) gs)
   pub same-term : (b : List ℕ) (gs : List Group) → termBytes (writeFile b gs) (3 + length b) ≡ b
   pub same-groups : (at : ℕ) (gs : List Group) → map (λ g. g .group) (placed at gs) ≡ gs
-  pub in-bytes : (b : List ℕ) (gs : List Group) → length (writeFile b gs) ≤ file-limit → Bytes b → GroupsFit gs → Bytes (writeFile b gs)
-  pub only-written : {s : List ℕ} {e : ℕ} {gs : List GroupAt} → Bytes s → readFile s ≡ accepted e gs → s ≡ writeFile (termBytes s e) (map (λ g. g .group) gs)
-  pub fitting : {s : List ℕ} {e : ℕ} {gs : List GroupAt} → Bytes s → readFile s ≡ accepted e gs → GroupsFit (map (λ g. g .group) gs)
+  pub in-bytes : (b : List ℕ) (gs : List Group) → length (writeFile b gs) ≤ longestFile → InBytes b → GroupsFit gs → InBytes (writeFile b gs)
+  pub only-written : {s : List ℕ} {e : ℕ} {gs : List GroupAt} → InBytes s → readFile s ≡ accepted e gs → s ≡ writeFile (termBytes s e) (map (λ g. g .group) gs)
+  pub fitting : {s : List ℕ} {e : ℕ} {gs : List GroupAt} → InBytes s → readFile s ≡ accepted e gs → GroupsFit (map (λ g. g .group) gs)

@@ -8,14 +8,11 @@ use lib.ListN.{length, getD, take, drop}
 use lib.Dec.{leb, ltb, eqb}
 use Rattle.calculus.specs.Steps.{Step}
 use Rattle.calculus.specs.Rules.{Group}
+use Rattle.code.specs.Limits.{longestFile}
 use Rattle.fields.specs.declared.Field.{Field}
 use Rattle.fields.specs.declared.Field.the-variants.{Fault, End}
 use Rattle.fields.specs.declared.Layout.{Layout}
 use Rattle.fields.specs.declared.GroupSpan.{GroupSpan}
-
--- The most bytes of a file.
-abbrev pub file-limit : ℕ
-file-limit = 65535
 
 -- The number in two bytes, high byte first.
 unfoldable pub word : List ℕ → ℕ → ℕ
@@ -95,7 +92,7 @@ groupsFrom (suc k) s e at =
 -- The file: its length, the term's field, the groups.
 unfoldable pub readFile : List ℕ → Fields
 unfolding word fieldAt thenField groupEnd stepsFrom thenFields withGroup groupsFrom
-readFile s = cond (ltb file-limit (length s)) (refused 4 0) (thenFields (fieldAt 1 1 s 0) (λ e. groupsFrom (length s) s e e))
+readFile s = cond (ltb longestFile (length s)) (refused 4 0) (thenFields (fieldAt 1 1 s 0) (λ e. groupsFrom (length s) s e e))
 
 -- The same in numbers: number and place, the end of the term's body (0 where refused), and how many groups, n and those that follow.
 abbrev pub layoutWith : ℕ → Fields → Layout

@@ -2,9 +2,10 @@
 -- Assumes nothing.
 use Prim.Native.Nat.{ℕ, _+_, _/_, _%_, _<_}
 use mathlib.Core.List.{List, [], _∷_, _++_}
-use lib.ListN.{length, getD}
+use lib.ListN.{length}
 use Rattle.calculus.specs.Steps.{Step}
 use Rattle.calculus.specs.Rules.{Group}
+use Rattle.code.specs.Code.{Bytes}
 use Rattle.fields.specs.Fields.{GroupAt}
 
 -- Tag, length with the high byte first, body.
@@ -29,8 +30,8 @@ placed at (g ∷ gs) =
     record { head = at; group = g } ∷ placed (at + 6 + length (writeSteps (g .left)) + length (writeSteps (g .right))) gs
 
 -- What can be written in bytes.
-pub record Bytes (s : List ℕ) : Type 0 where
-  pub small : (i : ℕ) → getD s i 0 < 256
+pub record InBytes (s : List ℕ) : Type 0 where
+  pub small : Bytes s
 
 pub data StepsFit : List Step → Type 0 where
   none : StepsFit []
