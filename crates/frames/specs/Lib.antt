@@ -1,4 +1,5 @@
 -- The definitions and promises of this crate.
 -- Assumes nothing.
 pub mod Stored
+pub mod Body
 pub mod Claims
