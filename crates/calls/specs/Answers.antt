@@ -1,0 +1,62 @@
+-- The answers of the calls 'write a term's type' and 'apply one step' (document 01), with what each leaves in the lent buffer.
+-- Assumes nothing.
+use Prim.Native.Nat.{ℕ, zero, suc}
+use mathlib.Core.Bool.{cond}
+use mathlib.Core.Path.{_≡_}
+use mathlib.Core.Option.{Option, none, some}
+use mathlib.Core.List.{List, [], _∷_}
+use lib.Dec.{leb}
+use lib.ListN.{length}
+use lib.Seq.{sets}
+use Rattle.calculus.specs.Terms.{Term, size}
+use Rattle.calculus.specs.Frames.{ε}
+use Rattle.calculus.specs.Types.{type}
+use Rattle.calculus.specs.Steps.{Step, Outcome, step}
+use Rattle.calculus.specs.Steps as calculus
+use Rattle.code.specs.Code.{encode}
+use Rattle.examine.specs.Inspect.{Examined, refused, accepted, examined}
+use Rattle.verdict.specs.Bounds.{bodyFits}
+use Rattle.files.specs.File.{FileAnswer}
+
+-- The call 'examine a file': the number and place that it wrote, and the part that it handed back.
+pub record FileAnswered (number place : ℕ) (part : List ℕ) (a : FileAnswer) : Type 0 where
+  pub number-is : number ≡ a .number
+  pub place-is : place ≡ a .place
+  pub part-is : part ≡ a .part
+
+-- An answer and the buffer after it: 'none', or number, place and the length written.
+pub data Written : Type 0 where
+  nothing : (buffer : List ℕ) → Written
+  answer : (number place length : ℕ) (buffer : List ℕ) → Written
+
+-- A result for a lent buffer: 11 before 14. Bytes past the result, and the buffer at any refusal, keep their values.
+unfoldable pub written : List ℕ → Term → Written
+written out t =
+    let fits = cond (leb (size t) (length out)) (answer 0 0 (size t) (sets out 0 (encode t))) (answer 14 0 0 out) in
+    cond (bodyFits ε t) fits (answer 11 0 0 out)
+
+-- A term's type: term refusals, 'none', 11, 14.
+unfoldable pub typeWritten : List ℕ → Option Term → Written
+typeWritten out none = nothing out
+typeWritten out (some T) = written out T
+
+unfoldable pub typeAnswerOf : List ℕ → Examined → Written
+typeAnswerOf out (refused n p) = answer n p 0 out
+typeAnswerOf out (accepted t) = typeWritten out (type ε t)
+
+unfoldable pub typeAnswer : List ℕ → List ℕ → Written
+unfolding typeAnswerOf typeWritten written examined
+typeAnswer s out = typeAnswerOf out (examined s)
+
+-- One step, with an empty frame: term refusals, 10, 11, 14. Its 10 and 11 have place 0.
+unfoldable pub stepWritten : List ℕ → Outcome → Written
+stepWritten out (calculus.refused r) = answer 10 0 0 out
+stepWritten out (calculus.reached u) = written out u
+
+unfoldable pub stepAnswerOf : List ℕ → Step → Examined → Written
+stepAnswerOf out x (refused n p) = answer n p 0 out
+stepAnswerOf out x (accepted t) = stepWritten out (step ε x t)
+
+unfoldable pub stepAnswer : List ℕ → Step → List ℕ → Written
+unfolding stepAnswerOf stepWritten written examined
+stepAnswer s x out = stepAnswerOf out x (examined s)
