@@ -1,0 +1,29 @@
+-- `types::end_inside` meets its contract.
+-- Assumes nothing.
+use mathlib.Core.Path.{ap, sym, _∙_}
+use Rattle.calculus.proofs.Ren.{no-some}
+use Rattle.code.specs.Code.{endOf}
+use Rattle.code.proofs.FirstZero.{standing}
+use Rattle.frames.proofs.Laws.{end-at}
+use borrow.Author.Needs.{needs}
+use Rattle.types.proofs.end_inside.Statement.{statement}
+use Rattle.types.proofs.end_inside.Tie as tie
+
+term-end-by-requires : tie.Need-term-end-by-requires
+term-end-by-requires c κs = search needs
+
+enum-known-e : tie.Need-enum-known-e
+enum-known-e c = search needs
+
+enum-told : tie.Need-enum-told
+enum-told c = search needs
+
+returns : tie.Need-returns
+returns c = no-some (sym (ap endOf (c .enum-told .given .1)) ∙ c .before .before .term-end-by .ensures ∙ standing (c .before .before .before .before .pre .1 .stands))
+
+returns-2 : tie.Need-returns-2
+returns-2 c = end-at (sym (ap endOf (c .before .e .given .1)) ∙ c .before .before .before .term-end-by .ensures)
+
+pub end-inside-spec : {M : Type 1} → statement M
+end-inside-spec =
+    tie.close (tie.spec term-end-by-requires enum-known-e enum-told returns returns-2)
