@@ -1,22 +1,28 @@
 -- The answers of the calls 'write a term's type' and 'apply one step' (document 01), with what each leaves in the lent buffer.
 -- Assumes nothing.
-use Prim.Native.Nat.{ℕ, zero, suc}
+use Prim.Native.Nat.{ℕ}
 use mathlib.Core.Bool.{cond}
 use mathlib.Core.Path.{_≡_}
 use mathlib.Core.Option.{Option, none, some}
-use mathlib.Core.List.{List, [], _∷_}
+use mathlib.Core.List.{List}
 use lib.Dec.{leb}
 use lib.ListN.{length}
 use lib.Seq.{sets}
-use Rattle.calculus.specs.Terms.{Term, size}
+use Rattle.calculus.specs.Terms.{Term}
 use Rattle.calculus.specs.Frames.{ε}
 use Rattle.calculus.specs.Types.{type}
 use Rattle.calculus.specs.Steps.{Step, Outcome, step}
 use Rattle.calculus.specs.Steps as calculus
 use Rattle.code.specs.Code.{encode}
 use Rattle.examine.specs.Inspect.{Examined, refused, accepted, examined}
+use Rattle.frames.specs.declared.FrameRecord.{FrameRecord}
+use Rattle.frames.specs.Stored.{Stored}
+use Rattle.frames.specs.Body.{Body}
 use Rattle.verdict.specs.Bounds.{bodyFits}
 use Rattle.files.specs.File.{FileAnswer}
+use Rattle.calls.specs.declared.StepAnswer.{StepAnswer}
+use Rattle.calls.specs.declared.TypeAnswer.{TypeAnswer}
+use Rattle.calls.specs.declared.TypeAnswer.the-variants.{Nothing, Answer}
 
 -- The call 'examine a file': the number and place that it wrote, and the part that it handed back.
 pub record FileAnswered (number place : ℕ) (part : List ℕ) (a : FileAnswer) : Type 0 where
@@ -29,11 +35,14 @@ pub data Written : Type 0 where
   nothing : (buffer : List ℕ) → Written
   answer : (number place length : ℕ) (buffer : List ℕ) → Written
 
--- A result for a lent buffer: 11 before 14. Bytes past the result, and the buffer at any refusal, keep their values.
+-- The bytes v for a lent buffer, which stays as it is where it is shorter (14). Bytes past v keep their values.
+unfoldable pub handed : List ℕ → List ℕ → Written
+handed out v = cond (leb (length v) (length out)) (answer 0 0 (length v) (sets out 0 v)) (answer 14 0 0 out)
+
+-- A result: 11, then 14.
 unfoldable pub written : List ℕ → Term → Written
-written out t =
-    let fits = cond (leb (size t) (length out)) (answer 0 0 (size t) (sets out 0 (encode t))) (answer 14 0 0 out) in
-    cond (bodyFits ε t) fits (answer 11 0 0 out)
+unfolding handed
+written out t = cond (bodyFits ε t) (handed out (encode t)) (answer 11 0 0 out)
 
 -- A term's type: term refusals, 'none', 11, 14.
 unfoldable pub typeWritten : List ℕ → Option Term → Written
@@ -60,3 +69,20 @@ stepAnswerOf out x (accepted t) = stepWritten out (step ε x t)
 unfoldable pub stepAnswer : List ℕ → Step → List ℕ → Written
 unfolding stepAnswerOf stepWritten written examined
 stepAnswer s x out = stepAnswerOf out x (examined s)
+
+-- The answers of the code, with the buffer as it is left, as document 01 has them.
+abbrev pub typeSays : TypeAnswer → List ℕ → Written
+typeSays Nothing out = nothing out
+typeSays (Answer n p k) out = answer n p k out
+
+abbrev pub stepSays : StepAnswer → List ℕ → Written
+stepSays r out = answer (r .number) (r .place) (r .length) out
+
+-- Some term is accepted.
+pub record AcceptedTerm (s : List ℕ) : Type 0 where
+  pub term : Term
+  pub accepts : examined s ≡ accepted term
+
+-- A buffer that holds, as a body after the empty frame, the term that s is.
+pub record Opened (s b : List ℕ) : Type 0 where
+  pub body : {w : List ℕ} {f : FrameRecord} (t : Term) → examined s ≡ accepted t → Stored w f ε → Body w f b (length s) ε t

@@ -1,3 +1,5 @@
--- The definitions of this crate.
+-- The definitions, promises and examples of this crate.
 -- Assumes nothing.
 pub mod Answers
+pub mod Claims
+pub mod Examples

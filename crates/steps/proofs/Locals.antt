@@ -7,6 +7,7 @@ use mathlib.Core.Option.{none}
 use mathlib.Core.List.{List}
 use native.Mathlib.Omega.{arith}
 use lib.ListN.{length}
+use lib.Seq.{sets}
 use Rattle.calculus.specs.Terms.{Term, size, Closed, lift}
 use Rattle.calculus.specs.Frames.{pair, Frame, depth, ClosedEntry, closed-pair}
 use Rattle.calculus.specs.Steps.{local, reached, step}
@@ -19,7 +20,6 @@ use Rattle.code.specs.Code.{encode, Coded}
 use Rattle.code.specs.Scope.{scope}
 use Rattle.code.specs.Claims.{Stands}
 use Rattle.code.proofs.RoundTrip.{length-encode}
-use lib.Seq.{sets}
 use Rattle.code.proofs.Parts.{stands-start, stands-end, stands-taken}
 use Rattle.code.proofs.Scope.{scope-lift, closed-coded}
 use Rattle.binders.specs.Paths.{replace, frameAt}

@@ -11,8 +11,8 @@ use Rattle.calculus.specs.Terms.{Term, size}
 use Rattle.code.specs.Code.{encode, Coded}
 use Rattle.code.specs.Claims.{Stands}
 use Rattle.code.proofs.RoundTrip.{length-encode}
-use Rattle.binders.specs.Paths.{subterm, replace}
 use Rattle.code.proofs.Parts.{stands-end, stands-self}
+use Rattle.binders.specs.Paths.{subterm, replace}
 use Rattle.binders.proofs.Laws.{encode-replace, coded-replace, subterm-stands}
 use Rattle.binders.proofs.Paths.{subterm-place}
 use Rattle.parts.specs.Parts.{part, Copied}

@@ -250,11 +250,14 @@ fn removal(body: &mut [u8; 4096], n: usize, p: usize) -> Stepped
         return Stepped::Refused;
     }
     let m = measure(body, x.rest, x.end);
-    if m.used {
+    let used = m.used;
+    if used {
         return Stepped::Refused;
     }
+    let gone = x.rest - p;
+    let left = n - gone;
     drop_pair(body, n, p, x.rest, x.end);
-    Stepped::Length(n - (x.rest - p))
+    Stepped::Length(left)
 }
 
 // One step on the body in the first n bytes, after the frame that f holds in work. Refused or outgrown, the buffer stays as

@@ -18,17 +18,17 @@ measure-requires c κs = rest-standing (c .before .before .before .before .befor
 returns-2 : tie.Need-returns-2
 returns-2 c = removal-used-still (c .before .before .before .before .before .before .before .before .pre) (c .before .before .before .before .before .before .find-pair .ensures) (not-false _ (c .before .before .before .before .if1 .left)) (c .before .measure .ensures) (c .if2 .taken)
 
+sub-gone : tie.Need-sub-gone
+sub-gone c = rest-after (c .before .before .before .before .before .before .before .before .before .pre) (c .before .before .before .before .before .before .before .find-pair .ensures) (not-false _ (c .before .before .before .before .before .if1 .left)) (c .before .before .measure .ensures) (c .before .if2 .left)
+
+sub-left : tie.Need-sub-left
+sub-left c = rest-before (c .before .before .before .before .before .before .before .before .before .pre) (c .before .before .before .before .before .before .before .find-pair .ensures) (not-false _ (c .before .before .before .before .before .if1 .left)) (c .before .before .measure .ensures) (c .before .if2 .left)
+
 drop-pair-requires : tie.Need-drop-pair-requires
-drop-pair-requires c κs = removal-droppable (c .before .before .before .before .before .before .before .before .before .pre) (c .before .before .before .before .before .before .before .find-pair .ensures) (not-false _ (c .before .before .before .before .before .if1 .left)) (c .before .before .measure .ensures) (c .before .if2 .left)
-
-sub-t12 : tie.Need-sub-t12
-sub-t12 c = rest-after (c .before .before .before .before .before .before .before .before .before .before .before .pre) (c .before .before .before .before .before .before .before .before .before .find-pair .ensures) (not-false _ (c .before .before .before .before .before .before .before .if1 .left)) (c .before .before .before .before .measure .ensures) (c .before .before .before .if2 .left)
-
-sub-t13 : tie.Need-sub-t13
-sub-t13 c = rest-before (c .before .before .before .before .before .before .before .before .before .before .before .pre) (c .before .before .before .before .before .before .before .before .before .find-pair .ensures) (not-false _ (c .before .before .before .before .before .before .before .if1 .left)) (c .before .before .before .before .measure .ensures) (c .before .before .before .if2 .left)
+drop-pair-requires c κs = removal-droppable (c .before .before .before .before .before .before .before .before .before .before .pre) (c .before .before .before .before .before .before .before .before .find-pair .ensures) (not-false _ (c .before .before .before .before .before .before .if1 .left)) (c .before .before .before .measure .ensures) (c .before .before .if2 .left)
 
 returns-3 : tie.Need-returns-3
-returns-3 c = removal-length (c .before .before .before .before .before .before .before .before .before .before .before .pre) (c .before .before .before .before .before .before .before .before .before .find-pair .ensures) (not-false _ (c .before .before .before .before .before .before .before .if1 .left)) (c .before .before .before .before .measure .ensures) (c .before .before .before .if2 .left) (c .before .drop-pair .ensures)
+returns-3 c = removal-length (c .before .before .before .before .before .before .before .before .before .before .before .pre) (c .before .before .before .before .before .before .before .before .before .find-pair .ensures) (not-false _ (c .before .before .before .before .before .before .before .if1 .left)) (c .before .before .before .before .measure .ensures) (c .before .before .before .if2 .left) (c .drop-pair .ensures)
 
 pub removal-spec : {M : Type 1} → statement M
 removal-spec =
@@ -38,7 +38,7 @@ removal-spec =
     returns
     measure-requires
     returns-2
+    sub-gone
+    sub-left
     drop-pair-requires
-    sub-t12
-    sub-t13
     returns-3)

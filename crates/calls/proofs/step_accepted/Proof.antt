@@ -1,0 +1,56 @@
+-- `calls::step_accepted` meets its contract.
+-- Assumes nothing.
+use mathlib.Core.Path.{refl}
+use Rattle.calls.proofs.Writing.{some-body, step-unmet, step-large, step-done, step-length}
+use borrow.Author.Needs.{needs}
+use Rattle.calls.proofs.step_accepted.Statement.{statement}
+use Rattle.calls.proofs.step_accepted.Tie as tie
+
+open-body-requires : tie.Need-open-body-requires
+open-body-requires c κs = search needs
+
+empty-frame-requires : tie.Need-empty-frame-requires
+empty-frame-requires c κs = search needs
+
+step-in-place-requires : tie.Need-step-in-place-requires
+step-in-place-requires c κs = some-body (c .before .before .before .before .before .before .pre) (c .before .before .before .open-body .ensures) (c .before .before .empty-frame .ensures) refl
+
+enum-told : tie.Need-enum-told
+enum-told c = search needs
+
+enum-told-2 : tie.Need-enum-told-2
+enum-told-2 c = search needs
+
+enum-known-stepped : tie.Need-enum-known-stepped
+enum-known-stepped c = search needs
+
+deliver-requires : tie.Need-deliver-requires
+deliver-requires c κs = step-length (c .before .before .before .before .before .before .before .before .before .before .before .before .pre) (c .before .before .before .before .before .before .before .before .before .open-body .ensures) (c .before .before .before .before .before .before .before .before .empty-frame .ensures) refl (c .before .before .before .before .before .step-in-place .ensures) (c .before .before .before .stepped .given .1)
+
+returns : tie.Need-returns
+returns c = step-unmet (c .before .before .before .before .before .before .before .before .before .pre) (c .before .before .before .before .before .before .open-body .ensures) (c .before .before .before .before .before .empty-frame .ensures) refl (c .before .before .step-in-place .ensures) _ (c .enum-told .given .1)
+
+returns-2 : tie.Need-returns-2
+returns-2 c = step-large (c .before .before .before .before .before .before .before .before .before .pre) (c .before .before .before .before .before .before .open-body .ensures) (c .before .before .before .before .before .empty-frame .ensures) refl (c .before .before .step-in-place .ensures) _ (c .enum-told2 .given .1)
+
+same-length : tie.Need-same-length
+same-length c = search needs
+
+returns-3 : tie.Need-returns-3
+returns-3 c = step-done (c .before .before .before .before .before .before .before .before .before .before .before .before .before .before .before .pre) (c .before .before .before .before .before .before .before .before .before .before .before .before .open-body .ensures) (c .before .before .before .before .before .before .before .before .before .before .before .empty-frame .ensures) refl (c .before .before .before .before .before .before .before .before .step-in-place .ensures) _ (c .before .before .before .before .before .before .stepped .given .1) (c .before .before .deliver .ensures)
+
+pub step-accepted-spec : {M : Type 1} → statement M
+step-accepted-spec =
+    tie.close
+    (tie.spec
+    open-body-requires
+    empty-frame-requires
+    step-in-place-requires
+    enum-told
+    enum-told-2
+    enum-known-stepped
+    deliver-requires
+    returns
+    returns-2
+    same-length
+    returns-3)

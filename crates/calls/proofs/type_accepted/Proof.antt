@@ -1,0 +1,56 @@
+-- `calls::type_accepted` meets its contract.
+-- Assumes nothing.
+use mathlib.Core.Path.{refl}
+use Rattle.calls.proofs.Writing.{some-body, type-none, type-large, type-done, type-length}
+use borrow.Author.Needs.{needs}
+use Rattle.calls.proofs.type_accepted.Statement.{statement}
+use Rattle.calls.proofs.type_accepted.Tie as tie
+
+open-body-requires : tie.Need-open-body-requires
+open-body-requires c κs = search needs
+
+empty-frame-requires : tie.Need-empty-frame-requires
+empty-frame-requires c κs = search needs
+
+type-in-place-requires : tie.Need-type-in-place-requires
+type-in-place-requires c κs = some-body (c .before .before .before .before .before .before .pre) (c .before .before .before .open-body .ensures) (c .before .before .empty-frame .ensures) refl
+
+enum-told : tie.Need-enum-told
+enum-told c = search needs
+
+enum-told-2 : tie.Need-enum-told-2
+enum-told-2 c = search needs
+
+enum-known-typed : tie.Need-enum-known-typed
+enum-known-typed c = search needs
+
+deliver-requires : tie.Need-deliver-requires
+deliver-requires c κs = type-length (c .before .before .before .before .before .before .before .before .before .before .before .before .pre) (c .before .before .before .before .before .before .before .before .before .open-body .ensures) (c .before .before .before .before .before .before .before .before .empty-frame .ensures) refl (c .before .before .before .before .before .type-in-place .ensures) (c .before .before .before .typed .given .1)
+
+returns : tie.Need-returns
+returns c = type-none (c .before .before .before .before .before .before .before .before .before .pre) (c .before .before .before .before .before .before .open-body .ensures) (c .before .before .before .before .before .empty-frame .ensures) refl (c .before .before .type-in-place .ensures) _ (c .enum-told .given .1)
+
+returns-2 : tie.Need-returns-2
+returns-2 c = type-large (c .before .before .before .before .before .before .before .before .before .pre) (c .before .before .before .before .before .before .open-body .ensures) (c .before .before .before .before .before .empty-frame .ensures) refl (c .before .before .type-in-place .ensures) _ (c .enum-told2 .given .1)
+
+same-length : tie.Need-same-length
+same-length c = search needs
+
+returns-3 : tie.Need-returns-3
+returns-3 c = type-done (c .before .before .before .before .before .before .before .before .before .before .before .before .before .before .before .pre) (c .before .before .before .before .before .before .before .before .before .before .before .before .open-body .ensures) (c .before .before .before .before .before .before .before .before .before .before .before .empty-frame .ensures) refl (c .before .before .before .before .before .before .before .before .type-in-place .ensures) _ (c .before .before .before .before .before .before .typed .given .1) (c .before .before .deliver .ensures)
+
+pub type-accepted-spec : {M : Type 1} → statement M
+type-accepted-spec =
+    tie.close
+    (tie.spec
+    open-body-requires
+    empty-frame-requires
+    type-in-place-requires
+    enum-told
+    enum-told-2
+    enum-known-typed
+    deliver-requires
+    returns
+    returns-2
+    same-length
+    returns-3)
