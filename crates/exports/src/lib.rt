@@ -1,0 +1,45 @@
+// The calls for programs in C and Rust. A slice is a pointer and a length; an answer is written to an array of numbers that
+// the caller lends.
+
+// Number, place, degree.
+#[no_mangle]
+pub extern "C" fn bijterne_examine_term(s: &[u8], answer: &mut [u64; 3]) {
+    let a = examine::examine_term(s);
+    let number = a.number;
+    let place = a.place;
+    let degree = a.degree;
+    *answer = [number as u64, place as u64, degree as u64];
+}
+
+// Number, place, and the length of the term's part, which starts at byte 3 of an accepted file.
+#[no_mangle]
+pub extern "C" fn bijterne_examine_file(s: &[u8], answer: &mut [u64; 3]) {
+    let mut number: u32 = 0;
+    let mut place: usize = 0;
+    let part = calls::examine_file(s, &mut number, &mut place);
+    let n = part.len();
+    *answer = [number as u64, place as u64, n as u64];
+}
+
+// Number, place and the length written; answers 1 for 'none', and then nothing is written.
+#[no_mangle]
+pub extern "C" fn bijterne_write_type(s: &[u8], out: &mut [u8], answer: &mut [u64; 3]) -> u32 {
+    let a = calls::write_type(s, out);
+    match a {
+        calls::TypeAnswer::Nothing => 1,
+        calls::TypeAnswer::Answer(number, place, length) => {
+            *answer = [number as u64, place as u64, length as u64];
+            0
+        }
+    }
+}
+
+// Number, place and the length written.
+#[no_mangle]
+pub extern "C" fn bijterne_apply_step(s: &[u8], kind: u8, place: u16, out: &mut [u8], answer: &mut [u64; 3]) {
+    let a = calls::apply_step(s, kind, place, out);
+    let number = a.number;
+    let at = a.place;
+    let length = a.length;
+    *answer = [number as u64, at as u64, length as u64];
+}
