@@ -36,7 +36,13 @@ pub extern "C" fn bijterne_write_type(s: &[u8], out: &mut [u8], answer: &mut [u6
 
 // Number, place and the length written.
 #[no_mangle]
-pub extern "C" fn bijterne_apply_step(s: &[u8], kind: u8, place: u16, out: &mut [u8], answer: &mut [u64; 3]) {
+pub extern "C" fn bijterne_apply_step(
+    s: &[u8],
+    kind: u8,
+    place: u16,
+    out: &mut [u8],
+    answer: &mut [u64; 3],
+) {
     let a = calls::apply_step(s, kind, place, out);
     let number = a.number;
     let at = a.place;
