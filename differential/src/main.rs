@@ -4,7 +4,7 @@
 
 use reference::gen::{bare_term, random_file, step_for, Rng};
 use reference::stack::on_large_stack;
-use reference::{apply_step, examine_file, examine_term, write_type, TypeAnswer};
+use reference::{apply_step, check, examine_file, examine_term, write_type, TypeAnswer};
 use std::process::ExitCode;
 
 mod proved {
@@ -13,6 +13,13 @@ mod proved {
         fn bijterne_examine_file(s: *const u8, n: usize, answer: *mut [u64; 3]);
         fn bijterne_write_type(s: *const u8, n: usize, out: *mut u8, m: usize, answer: *mut [u64; 3]) -> u32;
         fn bijterne_apply_step(s: *const u8, n: usize, kind: u8, place: u16, out: *mut u8, m: usize, answer: *mut [u64; 3]);
+        fn bijterne_check(s: *const u8, n: usize, answer: *mut [u64; 4]);
+    }
+
+    pub fn check(s: &[u8]) -> [u64; 4] {
+        let mut a = [0; 4];
+        unsafe { bijterne_check(s.as_ptr(), s.len(), &mut a) };
+        a
     }
 
     pub fn term(s: &[u8]) -> [u64; 3] {
@@ -47,6 +54,7 @@ enum Call {
     File(Vec<u8>),
     Type(Vec<u8>, usize),
     Step(Vec<u8>, u8, u16, usize),
+    Check(Vec<u8>),
 }
 
 /// The two answers, as text: numbers, and the buffer after the call.
@@ -76,6 +84,11 @@ fn answers(call: &Call) -> (String, String) {
             let r = [u64::from(a.number), a.place as u64, a.len as u64];
             (format!("{p:?} {x:02x?}"), format!("{r:?} {y:02x?}"))
         }
+        Call::Check(s) => {
+            let a = check(s);
+            let r = [u64::from(a.number), a.place as u64, a.comparisons as u64, a.degree];
+            (format!("{:?}", proved::check(s)), format!("{r:?}"))
+        }
     }
 }
 
@@ -85,12 +98,13 @@ fn with_input(call: &Call, s: Vec<u8>) -> Call {
         Call::File(_) => Call::File(s),
         Call::Type(_, m) => Call::Type(s, *m),
         Call::Step(_, k, p, m) => Call::Step(s, *k, *p, *m),
+        Call::Check(_) => Call::Check(s),
     }
 }
 
 fn input(call: &Call) -> &[u8] {
     match call {
-        Call::Term(s) | Call::File(s) | Call::Type(s, _) | Call::Step(s, _, _, _) => s,
+        Call::Term(s) | Call::File(s) | Call::Type(s, _) | Call::Step(s, _, _, _) | Call::Check(s) => s,
     }
 }
 
@@ -118,7 +132,7 @@ fn shrink(call: &Call) -> Call {
 
 struct Tally {
     calls: u64,
-    by_number: [[u64; 16]; 4],
+    by_number: [[u64; 16]; 5],
 }
 
 impl Tally {
@@ -129,6 +143,7 @@ impl Tally {
             Call::File(_) => 1,
             Call::Type(..) => 2,
             Call::Step(..) => 3,
+            Call::Check(_) => 4,
         };
         let number = r.trim_start_matches("Some(").trim_start_matches('[').split(',').next().and_then(|n| n.parse::<usize>().ok());
         self.by_number[row][number.unwrap_or(15)] += 1;
@@ -145,17 +160,18 @@ impl Tally {
 
 fn run(seed: u64, count: u64) -> bool {
     let mut rng = Rng::new(seed);
-    let mut tally = Tally { calls: 0, by_number: [[0; 16]; 4] };
+    let mut tally = Tally { calls: 0, by_number: [[0; 16]; 5] };
     let mut good = true;
     let values = [0x00u8, 0x01, 0x02, 0x03, 0xfc, 0xfd, 0xfe, 0xff];
     for n in 0..=4usize {
         for i in 0..values.len().pow(n as u32) {
             let s: Vec<u8> = (0..n).map(|k| values[i / values.len().pow(k as u32) % values.len()]).collect();
-            good &= tally.compare(Call::Term(s.clone())) && tally.compare(Call::File(s.clone())) && tally.compare(Call::Type(s, 6));
+            good &= tally.compare(Call::Term(s.clone())) && tally.compare(Call::File(s.clone())) && tally.compare(Call::Check(s.clone())) && tally.compare(Call::Type(s, 6));
         }
     }
     for _ in 0..count {
-        good &= tally.compare(Call::File(random_file(&mut rng)));
+        let s = random_file(&mut rng);
+        good &= tally.compare(Call::File(s.clone())) && tally.compare(Call::Check(s));
         let s = bare_term(&mut rng);
         good &= tally.compare(Call::Term(s.clone()));
         let m = if rng.below(3) == 0 { rng.below(s.len() + 2) } else { 4097 };
@@ -167,7 +183,7 @@ fn run(seed: u64, count: u64) -> bool {
         }
     }
     println!("{} calls compared; answers by number 0 to 14, then 'none':", tally.calls);
-    for (name, row) in ["term", "file", "type", "step"].iter().zip(tally.by_number) {
+    for (name, row) in ["term", "file", "type", "step", "check"].iter().zip(tally.by_number) {
         println!("  {name} {row:?}");
     }
     good

@@ -49,3 +49,19 @@ pub extern "C" fn bijterne_apply_step(
     let length = a.length;
     *answer = [number as u64, at as u64, length as u64];
 }
+
+// Number, place, comparisons completed, degree.
+#[no_mangle]
+pub extern "C" fn bijterne_check(s: &[u8], answer: &mut [u64; 4]) {
+    let a = checker::check(s);
+    let number = a.number;
+    let place = a.place;
+    let comparisons = a.comparisons;
+    let degree = a.degree;
+    *answer = [
+        number as u64,
+        place as u64,
+        comparisons as u64,
+        degree as u64,
+    ];
+}

@@ -77,7 +77,7 @@ bytes-take (suc n) [] b i = omega arith
 bytes-take (suc n) (x ∷ s) b zero = b 0
 bytes-take (suc n) (x ∷ s) b (suc i) = bytes-take n s (λ j. b (suc j)) i
 
-term-bytes : (s : List ℕ) (e : ℕ) → Bytes s → Bytes (termBytes s e)
+pub term-bytes : (s : List ℕ) (e : ℕ) → Bytes s → Bytes (termBytes s e)
 term-bytes s e b = bytes-take (e - 3) (drop 3 s) (bytes-drop 3 s b)
 
 opens-closed : {s : List ℕ} {t : Term} {e : ℕ} {gs : List GroupAt} → Bytes s → Opens s t e gs → Closed 0 t

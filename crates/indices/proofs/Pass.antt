@@ -21,7 +21,7 @@ use Rattle.indices.specs.Shift.{shift, shiftByte, uses}
 use Rattle.indices.specs.Stack.{stackLength, Ready, Advanced}
 use Rattle.indices.specs.Passes.{Standing, Measured, Shiftable}
 use Rattle.indices.proofs.Pending.{Item, item, next, deepest, isNone, used, shiftedText, deepest-next, used-next, shifted-next}
-use Rattle.indices.proofs.Walk.{Walk, walk-start, walk-end, unfinished, walk-next, here-byte, here-scope, ready}
+use Rattle.indices.proofs.Walk.{Walk, scope-size, walk-start, walk-end, unfinished, walk-next, here-byte, here-scope, ready}
 
 is-none : (o : Option Term) → isNone o ≡ true → o ≡ none
 unfolding isNone
@@ -43,8 +43,8 @@ pub record Measuring (s : List ℕ) (from e : ℕ) (stack : List ℕ) (sp i m : 
 pub measuring-start : {s : List ℕ} {from e : ℕ} {t : Term} (stack : List ℕ) → Stands s from e t → e ≤ from + longestTerm → length stack ≡ stackLength → getD stack 0 0 ≡ 0
     → Measuring s from e stack 1 from 0 false t
 unfolding deepest used
-measuring-start stack h l r z =
-    record { work = item 0 (h .coded) ∷ []; walk = walk-start stack h l r z; most = omega arith; use-seen = or-false _ }
+measuring-start {t = t} stack h l r z =
+    record { work = item 0 (h .coded) ∷ []; walk = walk-start stack h (omega (arith, scope-size t, h .place)) r z; most = omega arith; use-seen = or-false _ }
 
 module _ {s : List ℕ} {from e : ℕ} {stack : List ℕ} {sp i m : ℕ} {u : Bool} where
   pub measuring-next : {t : Term} {stack′ : List ℕ} {sp′ x m′ : ℕ} {u′ : Bool} → Measuring s from e stack sp i m u t → i < e
@@ -82,25 +82,25 @@ module _ {s : List ℕ} {from e : ℕ} {stack : List ℕ} {sp i m : ℕ} {u : Bo
       seen t W y z = sym (or-false u) ∙ rw z at y
 
 -- ---- Shifting: what is written, followed by what is to be written, is the whole.
-pub record Shifting (up down : ℕ) (s₀ s : List ℕ) (from e : ℕ) (stack : List ℕ) (sp i : ℕ) (t : Term) : Type 0 where
+pub record Shifting (up down c : ℕ) (s₀ s : List ℕ) (from e : ℕ) (stack : List ℕ) (sp i : ℕ) (t : Term) : Type 0 where
   pub work : List Item
   pub walk : Walk s from e stack sp i work
   pub bytes : Bytes (shiftedText up down work)
-  pub result : sets s i (shiftedText up down work) ≡ sets s₀ from (encode (shift up down 0 t))
+  pub result : sets s i (shiftedText up down work) ≡ sets s₀ from (encode (shift up down c t))
 
-module _ {up down : ℕ} where
-  pub shifting-start : {s : List ℕ} {from e : ℕ} (stack : List ℕ) → Shiftable s from e up down → length stack ≡ stackLength → getD stack 0 0 ≡ 0
-      → (t : Term) → Stands s from e t → Shifting up down s s from e stack 1 from t
+module _ {up down c : ℕ} where
+  pub shifting-start : {s : List ℕ} {from e : ℕ} (stack : List ℕ) → Shiftable s from e up down c → length stack ≡ stackLength → getD stack 0 0 ≡ c
+      → (t : Term) → Stands s from e t → Shifting up down c s s from e stack 1 from t
   unfolding shiftedText
   shifting-start stack g r z t h =
       record {
-        work = item 0 (h .coded) ∷ [];
-        walk = walk-start stack h (g .standing .short) r z;
-        bytes = rw (append-nil (encode (shift up down 0 t)), stands-unique h (g .standing .stands) .0) (encode-bytes (g .coded));
-        result = rw (append-nil (encode (shift up down 0 t)));
+        work = item c (h .coded) ∷ [];
+        walk = walk-start stack h (rw (stands-unique h (g .standing .stands) .0) (g .shallow)) r z;
+        bytes = rw (append-nil (encode (shift up down c t)), stands-unique h (g .standing .stands) .0) (encode-bytes (g .coded));
+        result = rw (append-nil (encode (shift up down c t)));
       }
 
-  module _ {s₀ s : List ℕ} {from e : ℕ} {stack : List ℕ} {sp i : ℕ} {t : Term} (v : Shifting up down s₀ s from e stack sp i t) where
+  module _ {s₀ s : List ℕ} {from e : ℕ} {stack : List ℕ} {sp i : ℕ} {t : Term} (v : Shifting up down c s₀ s from e stack sp i t) where
     pub shifting-ready : e ≤ from + longestTerm → i < e → Ready stack sp
     shifting-ready l h = ready (v .work) (v .walk) l h
 
@@ -112,11 +112,11 @@ module _ {up down : ℕ} where
         go (item d f ∷ W) w y = rw (p, here-scope d f W w, here-byte d f W w) (rw (shifted-next up down d f W) at (y 0))
 
     pub shifting-next : {stack′ : List ℕ} {sp′ x b : ℕ} → i < e → x ≡ getD stack (sp - 1) 0 → b ≡ shiftByte up down x (getD s i 0)
-        → Advanced stack stack′ sp sp′ (getD s i 0) → Shifting up down s₀ (set s i b) from e stack′ sp′ (i + 1) t
+        → Advanced stack stack′ sp sp′ (getD s i 0) → Shifting up down c s₀ (set s i b) from e stack′ sp′ (i + 1) t
     shifting-next {stack′} {sp′} {x} {b} h p q a = go (v .work) (v .walk) (v .bytes) (v .result)
       where
-        go : (W : List Item) → Walk s from e stack sp i W → Bytes (shiftedText up down W) → sets s i (shiftedText up down W) ≡ sets s₀ from (encode (shift up down 0 t))
-            → Shifting up down s₀ (set s i b) from e stack′ sp′ (i + 1) t
+        go : (W : List Item) → Walk s from e stack sp i W → Bytes (shiftedText up down W) → sets s i (shiftedText up down W) ≡ sets s₀ from (encode (shift up down c t))
+            → Shifting up down c s₀ (set s i b) from e stack′ sp′ (i + 1) t
         go [] w y z = absurd (unfinished w h)
         go (item d f ∷ W) w y z =
             record {
@@ -126,9 +126,9 @@ module _ {up down : ℕ} where
               result = rw (add-one i, q, p, here-scope d f W w, here-byte d f W w) (rw (shifted-next up down d f W) at z);
             }
 
-    pub shifting-end : e ≤ i → s ≡ sets s₀ from (encode (shift up down 0 t))
+    pub shifting-end : e ≤ i → s ≡ sets s₀ from (encode (shift up down c t))
     unfolding shiftedText
     shifting-end h = go (v .work) (v .result) (walk-end (v .work) (v .walk) h)
       where
-        go : (W : List Item) → sets s i (shiftedText up down W) ≡ sets s₀ from (encode (shift up down 0 t)) → W ≡ [] → s ≡ sets s₀ from (encode (shift up down 0 t))
+        go : (W : List Item) → sets s i (shiftedText up down W) ≡ sets s₀ from (encode (shift up down c t)) → W ≡ [] → s ≡ sets s₀ from (encode (shift up down c t))
         go W z q = rw q at z

@@ -1,6 +1,6 @@
 -- Lifting and lowering in place are shifts; and what stands in the string after them.
 -- Assumes nothing.
-use Prim.Native.Nat.{ℕ, _+_, _≤_}
+use Prim.Native.Nat.{ℕ, _+_, _≤_, _<_}
 use mathlib.Core.Path.{_≡_, refl, ap, sym, _∙_}
 use mathlib.Core.Option.{some}
 use mathlib.Core.List.{List}
@@ -14,28 +14,38 @@ use Rattle.code.specs.Code.{encode, Coded}
 use Rattle.code.specs.Claims.{Stands}
 use Rattle.code.proofs.RoundTrip.{length-encode}
 use Rattle.indices.specs.Shift.{shift}
-use Rattle.indices.specs.Passes.{Replaced, Liftable, Lowerable, Lowered, Shiftable}
+use Rattle.code.specs.Limits.{longestTerm}
+use Rattle.code.specs.Scope.{scope}
+use Rattle.indices.specs.Passes.{Standing, Replaced, Liftable, LiftableAbove, Lowerable, Lowered, Shiftable}
+use Rattle.indices.proofs.Walk.{scope-size}
 use Rattle.indices.proofs.Lowering.{shift-up, lower-shift, lower-size, lower-coded}
 use Rattle.indices.proofs.Places.{sets-own, stands-set, stands-before, stands-after, take-sets, drop-sets-after}
 
 -- ---- The contracts.
-pub lift-shiftable : {s : List ℕ} {from e n : ℕ} → Liftable s from e n → Shiftable s from e n 0
-lift-shiftable {n = n} g = record { standing = g .standing; coded = rw (shift-up n 0 (g .standing .term)) (g .coded); least = omega arith }
+pub lift-shiftable : {s : List ℕ} {from e n c : ℕ} → LiftableAbove s from e n c → Shiftable s from e n 0 c
+lift-shiftable {n = n} {c = c} g = record { standing = g .standing; coded = rw (shift-up n c (g .standing .term)) (g .coded); least = omega arith; shallow = g .shallow }
 
-pub lower-shiftable : {s : List ℕ} {from e : ℕ} → Lowerable s from e → Shiftable s from e 0 1
+-- a short term's scope is below its size
+standing-shallow : {s : List ℕ} {from e : ℕ} (g : Standing s from e) → 0 + scope (g .term) < longestTerm
+standing-shallow g = omega (arith, scope-size (g .term), g .stands .place, g .short)
+
+pub liftable-above : {s : List ℕ} {from e n : ℕ} → Liftable s from e n → LiftableAbove s from e n 0
+liftable-above g = record { standing = g .standing; coded = g .coded; shallow = standing-shallow (g .standing) }
+
+pub lower-shiftable : {s : List ℕ} {from e : ℕ} → Lowerable s from e → Shiftable s from e 0 1 0
 lower-shiftable g =
     let k = lower-coded 0 (g .standing .term) (g .lowered) (g .unused) (g .standing .stands .coded) in
-    record { standing = g .standing; coded = rw (lower-shift 0 (g .standing .term) (g .lowered) (g .unused)) k; least = omega arith }
+    record { standing = g .standing; coded = rw (lower-shift 0 (g .standing .term) (g .lowered) (g .unused)) k; least = omega arith; shallow = standing-shallow (g .standing) }
 
 module _ {s s′ : List ℕ} {from e : ℕ} where
-  pub lifted : (n : ℕ) → Replaced (shift n 0 0) s s′ from e → Replaced (lift n 0) s s′ from e
-  lifted n r = record { bytes = λ t h. r .bytes t h ∙ ap (λ u. sets s from (encode u)) (shift-up n 0 t); same-length = r .same-length }
+  pub lifted : (n c : ℕ) → Replaced (shift n 0 c) s s′ from e → Replaced (lift n c) s s′ from e
+  lifted n c r = record { bytes = λ t h. r .bytes t h ∙ ap (λ u. sets s from (encode u)) (shift-up n c t); same-length = r .same-length }
 
   pub lowered : Replaced (shift 0 1 0) s s′ from e → Lowered s s′ from e
   lowered r = record { bytes = λ t u h q. r .bytes t h ∙ ap (λ u. sets s from (encode u)) (lower-shift 0 t u q); same-length = r .same-length }
 
-pub lifted-zero : {s : List ℕ} {from e : ℕ} (n : ℕ) → n ≡ 0 → Replaced (lift n 0) s s from e
-lifted-zero n z = record { bytes = λ t h. rw (z, lift-zero 0 t) (sym (sets-own h)); same-length = refl }
+pub lifted-zero : {s : List ℕ} {from e : ℕ} (n c : ℕ) → n ≡ 0 → Replaced (lift n c) s s from e
+lifted-zero n c z = record { bytes = λ t h. rw (z, lift-zero c t) (sym (sets-own h)); same-length = refl }
 
 -- ---- What stands afterwards.
 module _ {s s′ : List ℕ} {from e : ℕ} {t u : Term} (h : Stands s from e t) (q : s′ ≡ sets s from (encode u)) (f : Coded u) (l : size u ≡ size t) where
@@ -57,8 +67,8 @@ module _ {s s′ : List ℕ} {from e : ℕ} {t u : Term} (h : Stands s from e t)
   pub after-same : (n : ℕ) → e ≤ n → drop n s′ ≡ drop n s
   after-same n o = rw q (drop-sets-after (encode u) s from n (omega (arith, end-place)))
 
-pub lifted-stands : {s s′ : List ℕ} {from e : ℕ} (n : ℕ) {t : Term} → Replaced (lift n 0) s s′ from e → Stands s from e t → Coded (lift n 0 t) → Stands s′ from e (lift n 0 t)
-lifted-stands n {t} r h f = here-stands h (r .bytes t h) f (size-lift n 0 t)
+pub lifted-stands : {s s′ : List ℕ} {from e : ℕ} (n c : ℕ) {t : Term} → Replaced (lift n c) s s′ from e → Stands s from e t → Coded (lift n c t) → Stands s′ from e (lift n c t)
+lifted-stands n c {t} r h f = here-stands h (r .bytes t h) f (size-lift n c t)
 
 pub lowered-stands : {s s′ : List ℕ} {from e : ℕ} {t u : Term} → Lowered s s′ from e → Stands s from e t → lower 0 t ≡ some u → Stands s′ from e u
 lowered-stands {t = t} {u = u} r h q = here-stands h (r .bytes t u h q) (lower-coded 0 t u q (h .coded)) (lower-size 0 t u q)

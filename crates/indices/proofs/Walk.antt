@@ -25,7 +25,7 @@ pub record Walk (s : List ℕ) (from e : ℕ) (stack : List ℕ) (sp i : ℕ) (W
   pub small : sp + from ≤ i + 1
   pub deep : deepest W < longestTerm
 
-scope-size : (t : Term) → scope t < size t
+pub scope-size : (t : Term) → scope t < size t
 unfolding scope size
 scope-size tau = omega arith
 scope-size (var k) = omega arith
@@ -33,17 +33,17 @@ scope-size (app K B) = omega (arith, scope-size K, scope-size B)
 scope-size (abs U B) = omega (arith, scope-size U, scope-size B)
 
 -- At first the whole term is to be read.
-pub walk-start : {s : List ℕ} {from e : ℕ} {t : Term} (stack : List ℕ) (h : Stands s from e t) → e ≤ from + longestTerm → length stack ≡ stackLength → getD stack 0 0 ≡ 0
-    → Walk s from e stack 1 from (item 0 (h .coded) ∷ [])
+pub walk-start : {s : List ℕ} {from e c : ℕ} {t : Term} (stack : List ℕ) (h : Stands s from e t) → c + scope t < longestTerm → length stack ≡ stackLength → getD stack 0 0 ≡ c
+    → Walk s from e stack 1 from (item c (h .coded) ∷ [])
 unfolding text scopes deepest stackOf
-walk-start {s} {from} {e} {t} stack h l r z =
+walk-start {s} {from} {e} {c} {t} stack h l r z =
     record {
       bytes = rw (stands-rest h, append-nil (encode t)) (h .bytes);
       place = h .place ∙ simp (length-append, length-encode) (omega arith);
       stacked = rw z;
       room = r;
       small = omega arith;
-      deep = omega (arith, scope-size t, h .place);
+      deep = omega arith;
     }
 
 module _ {s : List ℕ} {from e : ℕ} {stack : List ℕ} {sp i : ℕ} where

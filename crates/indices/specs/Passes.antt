@@ -1,6 +1,6 @@
 -- The contracts of the passes over a term that stands in a string.
 -- Assumes nothing.
-use Prim.Native.Nat.{ℕ, _+_, _≤_}
+use Prim.Native.Nat.{ℕ, _+_, _≤_, _<_}
 use mathlib.Core.Path.{_≡_}
 use mathlib.Core.Bool.{Bool, true, false}
 use mathlib.Core.Option.{none, some}
@@ -32,7 +32,13 @@ pub record Replaced (f : Term → Term) (s s′ : List ℕ) (from e : ℕ) : Typ
   pub bytes : (t : Term) → Stands s from e t → s′ ≡ sets s from (encode (f t))
   pub same-length : length s′ ≡ length s
 
--- Lifting by n leaves variables' bytes.
+-- Lifting by n with the cut-off c leaves variables' bytes.
+pub record LiftableAbove (s : List ℕ) (from e n c : ℕ) : Type 0 where
+  pub standing : Standing s from e
+  pub coded : Coded (lift n c (standing .term))
+  pub shallow : c + scope (standing .term) < longestTerm
+
+-- The same with no cut-off.
 pub record Liftable (s : List ℕ) (from e n : ℕ) : Type 0 where
   pub standing : Standing s from e
   pub coded : Coded (lift n 0 (standing .term))
@@ -48,7 +54,8 @@ pub record Lowered (s s′ : List ℕ) (from e : ℕ) : Type 0 where
   pub same-length : length s′ ≡ length s
 
 -- Either way.
-pub record Shiftable (s : List ℕ) (from e up down : ℕ) : Type 0 where
+pub record Shiftable (s : List ℕ) (from e up down c : ℕ) : Type 0 where
   pub standing : Standing s from e
-  pub coded : Coded (shift up down 0 (standing .term))
+  pub coded : Coded (shift up down c (standing .term))
   pub least : down ≤ 1
+  pub shallow : c + scope (standing .term) < longestTerm

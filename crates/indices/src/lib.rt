@@ -6,7 +6,7 @@ ghost use Prim.Native.Nat.{_≤_, _<_, max};
 ghost use Rattle.calculus.specs.Terms.{lift};
 ghost use Rattle.indices.specs.Shift.{shift, shiftByte, uses};
 ghost use Rattle.indices.specs.Stack.{bodyScope, Ready, Advanced};
-ghost use Rattle.indices.specs.Passes.{Standing, Measured, Replaced, Liftable, Lowerable, Lowered, Shiftable};
+ghost use Rattle.indices.specs.Passes.{Standing, Measured, Replaced, Liftable, LiftableAbove, Lowerable, Lowered, Shiftable};
 
 // The most abstractors of a term that any of its symbols has in scope, and whether index 1 of its surroundings is used.
 pub struct Measurement {
@@ -108,12 +108,12 @@ fn shifted(b: u8, d: usize, up: usize, down: usize) -> u8
     (k - down + up) as u8
 }
 
-// Each index that points outside the term has `up` added and `down` taken away.
-fn shift_indices(s: &mut [u8], from: usize, to: usize, up: usize, down: usize)
-    requires { ⌜ Shiftable (now s) from to up down ⌝ }
-    ensures { λ r. ⌜ Replaced (shift up down 0) (now (s .entry)) (now (s .exit)) from to ⌝ }
+// Each index above c that points outside the term has `up` added and `down` taken away.
+fn shift_indices(s: &mut [u8], from: usize, to: usize, up: usize, down: usize, c: u16)
+    requires { ⌜ Shiftable (now s) from to up down c ⌝ }
+    ensures { λ r. ⌜ Replaced (shift up down c) (now (s .entry)) (now (s .exit)) from to ⌝ }
 {
-    let mut stack: [u16; 2049] = [0; 2049];
+    let mut stack: [u16; 2049] = [c; 2049];
     let mut sp: usize = 1;
     let mut i = from;
     while i < to {
@@ -125,15 +125,23 @@ fn shift_indices(s: &mut [u8], from: usize, to: usize, up: usize, down: usize)
     }
 }
 
+// The term that stands from `from` up to `to` is lifted by n with the cut-off c.
+pub fn lift_above(s: &mut [u8], from: usize, to: usize, n: usize, c: u16)
+    requires { ⌜ LiftableAbove (now s) from to n c ⌝ }
+    ensures { λ r. ⌜ Replaced (lift n c) (now (s .entry)) (now (s .exit)) from to ⌝ }
+{
+    if n == 0 {
+        return;
+    }
+    shift_indices(s, from, to, n, 0, c);
+}
+
 // The term that stands from `from` up to `to` is lifted by n.
 pub fn lift_in_place(s: &mut [u8], from: usize, to: usize, n: usize)
     requires { ⌜ Liftable (now s) from to n ⌝ }
     ensures { λ r. ⌜ Replaced (lift n 0) (now (s .entry)) (now (s .exit)) from to ⌝ }
 {
-    if n == 0 {
-        return;
-    }
-    shift_indices(s, from, to, n, 0);
+    lift_above(s, from, to, n, 0);
 }
 
 // The term that stands from `from` up to `to` does not use index 1 of its surroundings, and the indices above are lowered by 1.
@@ -141,5 +149,5 @@ pub fn lower_in_place(s: &mut [u8], from: usize, to: usize)
     requires { ⌜ Lowerable (now s) from to ⌝ }
     ensures { λ r. ⌜ Lowered (now (s .entry)) (now (s .exit)) from to ⌝ }
 {
-    shift_indices(s, from, to, 0, 1);
+    shift_indices(s, from, to, 0, 1, 0);
 }

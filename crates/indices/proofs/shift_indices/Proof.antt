@@ -13,10 +13,10 @@ use Rattle.indices.proofs.shift_indices.Statement.{statement}
 use Rattle.indices.proofs.shift_indices.Tie as tie
 
 abbrev Inv-loop : tie.InvT-loop
-Inv-loop s₀ from to up down stack₀ sp₀ i₀ s stack sp i = (length s ≡ length s₀) × ((t : Term) → Stands s₀ from to t → Shifting up down s₀ s from to stack sp i t)
+Inv-loop s₀ from to up down c stack₀ sp₀ i₀ s stack sp i = (length s ≡ length s₀) × ((t : Term) → Stands s₀ from to t → Shifting up down c s₀ s from to stack sp i t)
 
 abbrev μ-loop : tie.MeasureT-loop
-μ-loop s₀ from to up down stack₀ sp₀ i₀ s stack sp i = to - i
+μ-loop s₀ from to up down c stack₀ sp₀ i₀ s stack sp i = to - i
 
 loop-holds : tie.Need-loop-holds Inv-loop μ-loop
 loop-holds c = (refl, shifting-start _ (c .before .pre) refl refl)

@@ -1,0 +1,63 @@
+-- `walk::pass_pair` meets its contract.
+-- Assumes nothing.
+use native.Mathlib.Omega.{arith}
+use mathlib.Core.Path.{_≡_, refl, _∙_}
+use Rattle.walk.proofs.Enter.{reached-inside}
+use Rattle.walk.proofs.Own.{own-bound, own-base, app-bounds, app-small, abs-bounds, fewer-entries, domain-writable, alone-fits, wait-above, wait-asked, wait-domain, wait-past, comparing, app-ruled, alone-ruled, stop-ruled, pair-ruled, inner-end, inner-bound}
+use Rattle.walk.proofs.pass_pair.Statement.{statement}
+use Rattle.walk.proofs.pass_pair.Tie as tie
+use Rattle.walk.proofs.pass_pair.Reads as reads
+use Rattle.walk.proofs.pass_pair.Lts as lts
+use Rattle.frames.proofs.push.Reads as push-reads
+use Rattle.walk.proofs.put_own.Reads as put-own-reads
+use Rattle.walk.proofs.put_wait.Reads as put-wait-reads
+use Rattle.walk.proofs.slot_at.Reads as slot-at-reads
+
+put-wait-requires : tie.Need-put-wait-requires
+put-wait-requires c κs = (wait-asked (c .before .before .before .pre .1) (c .before .before .before .pre .0 .here) (c .before .before .before .pre .2) (c .before .before .before .pre .0 .room) (c .before .before .before .pre .4), wait-above (c .before .before .before .pre .1) (c .before .before .before .pre .0 .here) (c .before .before .before .pre .2) (c .before .before .before .pre .0 .room) (c .before .before .before .pre .4))
+
+add-put-own : tie.Need-add-put-own
+add-put-own c = omega (arith, own-bound (c .before .before .before .before .before .pre .1) (c .before .before .before .before .before .pre .0 .here))
+
+put-own-requires : tie.Need-put-own-requires
+put-own-requires c κs = (omega arith, wait-domain (c .before .before .before .before .before .pre .1) (c .before .before .before .before .before .pre .0 .here) (c .before .before .before .before .before .pre .2) (c .before .before .before .before .before .pre .0 .room) (c .before .before .before .before .before .pre .4) (c .before .put-wait .ensures))
+
+compare-requires : tie.Need-compare-requires
+compare-requires c κs = comparing (c .before .before .before .before .before .before .before .pre .1) (c .before .before .before .before .before .before .before .pre .0 .here) (c .before .before .before .before .before .before .before .pre .2) (c .before .before .before .before .before .before .before .pre .0 .room) (c .before .before .before .before .before .before .before .pre .4) (c .before .before .before .put-wait .ensures) (c .before .put-own .ensures)
+
+sub-slot-at : tie.Need-sub-slot-at
+sub-slot-at c = omega (arith, wait-above (c .before .before .before .before .before .before .before .before .before .before .pre .1) (c .before .before .before .before .before .before .before .before .before .before .pre .0 .here) (c .before .before .before .before .before .before .before .before .before .before .pre .2) (c .before .before .before .before .before .before .before .before .before .before .pre .0 .room) (c .before .before .before .before .before .before .before .before .before .before .pre .4))
+
+slot-at-requires : tie.Need-slot-at-requires
+slot-at-requires c κs = omega (arith, wait-above (c .before .before .before .before .before .before .before .before .before .before .pre .1) (c .before .before .before .before .before .before .before .before .before .before .pre .0 .here) (c .before .before .before .before .before .before .before .before .before .before .pre .2) (c .before .before .before .before .before .before .before .before .before .before .pre .0 .room) (c .before .before .before .before .before .before .before .before .before .before .pre .4), own-bound (c .before .before .before .before .before .before .before .before .before .before .pre .1) (c .before .before .before .before .before .before .before .before .before .before .pre .0 .here), c .before .before .before .before .before .before .before .before .before .before .pre .0 .here .tops)
+
+returns : tie.Need-returns
+returns c = stop-ruled (c .before .before .before .before .before .before .before .before .before .before .before .pre .1) (c .before .before .before .before .before .before .before .before .before .before .before .pre .0) (c .before .before .before .before .before .before .before .before .before .before .before .pre .2) (c .before .before .before .before .before .before .before .before .before .before .before .pre .4) (c .before .before .before .before .before .before .before .put-wait .ensures) (c .before .before .before .before .before .put-own .ensures) (c .before .before .before .compare .ensures) (c .before .if1 .taken) (c .slot-at .ensures .0)
+
+push-requires : tie.Need-push-requires
+push-requires c κs = (fewer-entries (c .before .before .before .before .before .before .before .before .before .before .pre .1) (c .before .before .before .before .before .before .before .before .before .before .pre .0 .here) (c .before .before .before .before .before .before .before .before .before .before .pre .2), c .before .before .before .before .before .before .before .before .before .before .pre .0 .here .stored .inside)
+
+add-t23 : tie.Need-add-t23
+add-t23 c = let z = c .before .before .before .before .before .before .before .before .before .before .before .before .pre .0 .here .reached in omega (arith, z .few, reached-inside z)
+
+sub-t23 : tie.Need-sub-t23
+sub-t23 c = omega (arith, wait-above (c .before .before .before .before .before .before .before .before .before .before .before .before .pre .1) (c .before .before .before .before .before .before .before .before .before .before .before .before .pre .0 .here) (c .before .before .before .before .before .before .before .before .before .before .before .before .pre .2) (c .before .before .before .before .before .before .before .before .before .before .before .before .pre .0 .room) (c .before .before .before .before .before .before .before .before .before .before .before .before .pre .4))
+
+returns-2 : tie.Need-returns-2
+returns-2 c = rw (c .before .push .ensures) (pair-ruled (c .before .before .before .before .before .before .before .before .before .before .before .before .pre .1) (c .before .before .before .before .before .before .before .before .before .before .before .before .pre .0) (c .before .before .before .before .before .before .before .before .before .before .before .before .pre .2) (c .before .before .before .before .before .before .before .before .before .before .before .before .pre .4) (c .before .before .before .before .before .before .before .before .put-wait .ensures) (c .before .before .before .before .before .before .put-own .ensures) (c .before .before .before .before .compare .ensures) (c .before .before .if1 .left))
+
+pub pass-pair-spec : {M : Type 1} → statement M
+pass-pair-spec =
+    tie.close
+    (tie.spec
+    put-wait-requires
+    add-put-own
+    put-own-requires
+    compare-requires
+    sub-slot-at
+    slot-at-requires
+    returns
+    push-requires
+    add-t23
+    sub-t23
+    returns-2)
