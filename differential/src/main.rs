@@ -1,5 +1,5 @@
 //! differential SEED COUNT: the proved calls against the independent implementation, on COUNT files and COUNT bare terms made
-//! from the seed, and on all terms of at most 3 bytes over the interesting values. Answers and every buffer byte are compared;
+//! from the seed, on files at the limits, and on all terms of at most 4 bytes over the interesting values. Answers and every buffer byte are compared;
 //! a disagreement prints the smallest input that it could shrink to, and the exit status is 1.
 
 use reference::gen::{bare_term, random_file, step_for, Rng};
@@ -158,6 +158,30 @@ impl Tally {
     }
 }
 
+fn file(term: &[u8], groups: usize) -> Vec<u8> {
+    let mut s = vec![1, (term.len() >> 8) as u8, term.len() as u8];
+    s.extend(term);
+    s.extend([2, 0, 0, 3, 0, 0].repeat(groups));
+    s
+}
+
+/// Files at the limits: nesting, abstractors and indices, applicators that wait, groups, and an accepted file cut at every byte.
+fn limits() -> Vec<Vec<u8>> {
+    let nested = |front: &[u8], tag: u8, n: usize| [front, &vec![tag; n], &vec![0; n + 1]].concat();
+    let mut all = vec![file(&[0], 10_921), file(&[0], 10_922), vec![0; 65_535], vec![0; 65_536]];
+    for tag in [0xfe, 0xff] {
+        all.extend([2_046, 2_047, 2_048].map(|n| file(&nested(&[], tag, n), 0)));
+        all.push(file(&nested(&[0xff, 0].repeat(200), tag, 1_800), 0));
+    }
+    all.extend([1, 1_000, 2_047].map(|n| file(&[[0xfe, 0].repeat(n), vec![0]].concat(), 0)));
+    for n in [252, 253, 254] {
+        all.extend((0..=0xfd).map(|k| file(&[[0xff, 0].repeat(n), vec![k]].concat(), 0)));
+    }
+    let good = file(&[0xff, 0, 0xff, 1, 0xfe, 1, 0xff, 2, 1], 1);
+    all.extend((0..=good.len()).map(|n| good[..n].to_vec()));
+    all
+}
+
 fn run(seed: u64, count: u64) -> bool {
     let mut rng = Rng::new(seed);
     let mut tally = Tally { calls: 0, by_number: [[0; 16]; 5] };
@@ -168,6 +192,9 @@ fn run(seed: u64, count: u64) -> bool {
             let s: Vec<u8> = (0..n).map(|k| values[i / values.len().pow(k as u32) % values.len()]).collect();
             good &= tally.compare(Call::Term(s.clone())) && tally.compare(Call::File(s.clone())) && tally.compare(Call::Check(s.clone())) && tally.compare(Call::Type(s, 6));
         }
+    }
+    for s in limits() {
+        good &= tally.compare(Call::File(s.clone())) && tally.compare(Call::Check(s));
     }
     for _ in 0..count {
         let s = random_file(&mut rng);
