@@ -1,5 +1,6 @@
 //! The frame R, and what depends on it: types, steps, the limit on a body.
 
+use crate::mistakes::{made, Mistake};
 use crate::term::{abs, app, Term, Term::*, MAX_SCOPE, MAX_TERM_BYTES};
 
 /// An entry of the frame. Its terms stand after the entries before it.
@@ -46,10 +47,14 @@ fn type_in_scope<'a>(mut us: Vec<&'a Term>, term: &'a Term) -> Option<Term> {
     match term {
         Tau => None,
         Var(index) => Some(us[us.len() - *index as usize].lift(*index)),
-        App(k, rest) => Some(app((**k).clone(), type_in_scope(us, rest)?)),
-        Abs(u, rest) => {
+        App(wagon) => {
+            let (k, rest) = wagon.parts();
+            Some(app(k.clone(), type_in_scope(us, rest)?))
+        }
+        Abs(wagon) => {
+            let (u, rest) = wagon.parts();
             us.push(u);
-            Some(abs((**u).clone(), type_in_scope(us, rest)?))
+            Some(abs(u.clone(), type_in_scope(us, rest)?))
         }
     }
 }
@@ -102,25 +107,27 @@ fn local<'a>(
             let k = ks[ks.len() - *index as usize]?;
             Some(k.lift(*index))
         }
-        App(_, _) | Abs(_, _) if place == 0 => None,
-        App(k, rest) => {
+        App(_) | Abs(_) if place == 0 => None,
+        App(wagon) => {
+            let (k, rest) = wagon.parts();
             let inner = place - 1;
             if inner < k.size() {
-                Some(app(local(k, inner, ks, None)?, (**rest).clone()))
+                Some(app(local(k, inner, ks, None)?, rest.clone()))
             } else {
                 let rest = local(rest, inner - k.size(), ks, Some(k))?;
-                Some(app((**k).clone(), rest))
+                Some(app(k.clone(), rest))
             }
         }
-        Abs(u, rest) => {
+        Abs(wagon) => {
+            let (u, rest) = wagon.parts();
             let inner = place - 1;
             if inner < u.size() {
-                Some(abs(local(u, inner, ks, None)?, (**rest).clone()))
+                Some(abs(local(u, inner, ks, None)?, rest.clone()))
             } else {
                 ks.push(before);
                 let rest = local(rest, inner - u.size(), ks, None);
                 ks.pop();
-                Some(abs((**u).clone(), rest?))
+                Some(abs(u.clone(), rest?))
             }
         }
     }
@@ -128,21 +135,47 @@ fn local<'a>(
 
 /// The removal at `place` of `term`.
 fn removal(term: &Term, place: usize) -> Option<Term> {
-    if place == 0 {
-        return match term {
-            App(_, rest) => match &**rest {
-                Abs(_, scope) if !scope.uses(1) => Some(scope.without(1)),
-                _ => None,
-            },
-            _ => None,
-        };
-    }
-    let inside = place - 1;
     match term {
         Tau | Var(_) => None,
-        App(k, rest) if inside < k.size() => Some(app(removal(k, inside)?, (**rest).clone())),
-        App(k, rest) => Some(app((**k).clone(), removal(rest, inside - k.size())?)),
-        Abs(u, rest) if inside < u.size() => Some(abs(removal(u, inside)?, (**rest).clone())),
-        Abs(u, rest) => Some(abs((**u).clone(), removal(rest, inside - u.size())?)),
+        App(wagon) => {
+            let (k, rest) = wagon.parts();
+            if place == 0 {
+                return without_pair(rest);
+            }
+            let inside = place - 1;
+            if inside < k.size() {
+                Some(app(removal(k, inside)?, rest.clone()))
+            } else {
+                Some(app(k.clone(), removal(rest, inside - k.size())?))
+            }
+        }
+        Abs(_) if place == 0 => None,
+        Abs(wagon) => {
+            let (u, rest) = wagon.parts();
+            let inside = place - 1;
+            if inside < u.size() {
+                Some(abs(removal(u, inside)?, rest.clone()))
+            } else {
+                Some(abs(u.clone(), removal(rest, inside - u.size())?))
+            }
+        }
+    }
+}
+
+/// What is left of an applicator and `rest` after it, if they begin with a pair
+/// whose variable has no use.
+fn without_pair(rest: &Term) -> Option<Term> {
+    match rest {
+        Abs(wagon) => {
+            let (_, scope) = wagon.parts();
+            if scope.uses(1) {
+                None
+            } else if made(Mistake::RemovalKeepsIndices) {
+                Some(scope.clone())
+            } else {
+                Some(scope.without(1))
+            }
+        }
+        _ => None,
     }
 }

@@ -41,6 +41,14 @@ impl Rng {
     pub fn byte(&mut self) -> u8 {
         self.next_u64() as u8
     }
+
+    pub fn bytes(&mut self, n: usize) -> Vec<u8> {
+        let mut bytes = vec![0; n];
+        for part in bytes.chunks_mut(8) {
+            part.copy_from_slice(&self.next_u64().to_le_bytes()[..part.len()]);
+        }
+        bytes
+    }
 }
 
 // ----------------------------------------------------------------- files
@@ -179,10 +187,10 @@ fn odd_byte(rng: &mut Rng) -> u8 {
 /// A text correct by construction: declarations, definitions and
 /// applications whose arguments fit.
 pub fn text(rng: &mut Rng) -> Term {
-    let lines = match rng.below(10) {
-        0..=4 => rng.between(1, 5),
-        5..=7 => rng.between(4, 12),
-        8 => rng.between(10, 25),
+    let lines = match rng.below(20) {
+        0..=10 => rng.between(1, 5),
+        11..=16 => rng.between(4, 12),
+        17..=18 => rng.between(10, 25),
         _ => rng.between(20, 45),
     };
     Maker { rng }.text(lines)
@@ -216,8 +224,20 @@ impl Maker<'_> {
         let end = self.term(&frame, 2);
         frame.into_iter().rev().fold(end, |rest, line| match line {
             Entry::Single(u) => abs(u, rest),
-            Entry::Pair(k, u) => app(k, abs(u, rest)),
+            Entry::Pair(k, u) => self.before_pair(k, u, rest),
         })
+    }
+
+    /// ⟨K⟩[U] and the rest. If the rest begins with an applicator that does not
+    /// use the pair, this is sometimes put before it, so that it waits.
+    fn before_pair(&mut self, k: Term, u: Term, rest: Term) -> Term {
+        if let App(wagon) = &rest {
+            let (first, after) = wagon.parts();
+            if !first.uses(1) && self.rng.below(3) == 0 {
+                return app(first.without(1), app(k, abs(u, after.clone())));
+            }
+        }
+        app(k, abs(u, rest))
     }
 
     fn line(&mut self, frame: &Frame) -> Line {
@@ -379,11 +399,13 @@ impl Maker<'_> {
         }
         match term {
             Tau | Var(_) => term.clone(),
-            App(inner, rest) => {
+            App(wagon) => {
+                let (inner, rest) = wagon.parts();
                 let inner = self.fold(inner, k, index);
                 app(inner, self.fold(rest, k, index))
             }
-            Abs(inner, rest) => {
+            Abs(wagon) => {
+                let (inner, rest) = wagon.parts();
                 let inner = self.fold(inner, k, index);
                 abs(inner, self.fold(rest, &k.lift(1), index + 1))
             }
@@ -392,11 +414,12 @@ impl Maker<'_> {
 
     /// A correct term with this type, if one is found soon.
     fn inhabitant(&mut self, frame: &Frame, wanted: &Term, fuel: usize) -> Option<Term> {
+        let goal = reduce(frame, wanted, Order::RemovalFirst, self.rng);
         let first = self.rng.below(frame.len().max(1));
         for i in 0..frame.len() {
             let index = 1 + ((first + i) % frame.len()) as u64;
             let own = type_of_variable(frame, index);
-            if equivalent(frame, &own, wanted, self.rng) {
+            if equivalent(frame, &own, &goal, self.rng) {
                 return Some(Var(index));
             }
         }
@@ -404,16 +427,19 @@ impl Maker<'_> {
             return None;
         }
         match wanted {
-            Abs(u, rest) => {
-                let inner = extended(frame, Entry::Single((**u).clone()));
+            Abs(wagon) => {
+                let (u, rest) = wagon.parts();
+                let inner = extended(frame, Entry::Single(u.clone()));
                 let k = self.inhabitant(&inner, rest, fuel - 1)?;
-                return Some(abs((**u).clone(), k));
+                return Some(abs(u.clone(), k));
             }
-            App(k, rest) => {
-                if let Abs(u, rest) = &**rest {
-                    let inner = extended(frame, Entry::Pair((**k).clone(), (**u).clone()));
+            App(wagon) => {
+                let (k, rest) = wagon.parts();
+                if let Abs(next) = rest {
+                    let (u, rest) = next.parts();
+                    let inner = extended(frame, Entry::Pair(k.clone(), u.clone()));
                     let inside = self.inhabitant(&inner, rest, fuel - 1)?;
-                    return Some(app((**k).clone(), abs((**u).clone(), inside)));
+                    return Some(app(k.clone(), abs(u.clone(), inside)));
                 }
             }
             _ => {}
@@ -422,7 +448,7 @@ impl Maker<'_> {
             let head = Var(self.any_index(frame));
             let spine = self.apply_more(frame, head, fuel - 1);
             let own = type_of(frame, &spine)?;
-            if equivalent(frame, &own, wanted, self.rng) {
+            if equivalent(frame, &own, &goal, self.rng) {
                 return Some(spine);
             }
         }
@@ -443,29 +469,30 @@ fn domain(frame: &Frame, spine: &Term) -> Option<Term> {
     let mut waiting: Vec<Term> = Vec::new();
     let mut b = spine.clone();
     loop {
-        match b {
+        match &b {
             Tau => return None,
-            Var(index) => b = type_of_variable(&r, index),
-            App(k, rest) => {
-                waiting.push(*k);
-                b = *rest;
+            Var(index) => b = type_of_variable(&r, *index),
+            App(wagon) => {
+                let (k, rest) = wagon.parts();
+                waiting.push(k.clone());
+                b = rest.clone();
             }
-            Abs(u, rest) => {
+            Abs(wagon) => {
+                let (u, rest) = wagon.parts();
                 match waiting.pop() {
                     Some(k) => {
-                        r.push(Entry::Pair(k, *u));
+                        r.push(Entry::Pair(k, u.clone()));
                         waiting = waiting.iter().map(|k| k.lift(1)).collect();
-                        b = *rest;
+                        b = rest.clone();
                     }
                     None => {
                         let passed = r.split_off(frame.len());
-                        return Some(passed.into_iter().rev().fold(
-                            *u,
-                            |rest, entry| match entry {
+                        return Some(passed.into_iter().rev().fold(u.clone(), |rest, entry| {
+                            match entry {
                                 Entry::Single(u) => abs(u, rest),
                                 Entry::Pair(k, u) => app(k, abs(u, rest)),
-                            },
-                        ));
+                            }
+                        }));
                     }
                 }
             }
@@ -671,15 +698,11 @@ fn deep_train(rng: &mut Rng) -> Vec<u8> {
 }
 
 /// How many sorts of files at a limit there are.
-pub const LIMIT_SORTS: usize = 17;
+pub const LIMIT_SORTS: usize = 18;
 
-/// A file at a limit. Sorts 2, 3, 7 and 15 take the checker long and are made
-/// less often.
+/// A file at a limit.
 pub fn limit_file(rng: &mut Rng) -> Vec<u8> {
-    let mut sort = rng.below(LIMIT_SORTS);
-    if [2, 3, 7, 15].contains(&sort) && rng.below(3) > 0 {
-        sort = rng.below(LIMIT_SORTS);
-    }
+    let sort = rng.below(LIMIT_SORTS);
     limit_file_of(rng, sort)
 }
 
@@ -858,7 +881,7 @@ pub fn limit_file_of(rng: &mut Rng, sort: usize) -> Vec<u8> {
         // About 65,535 bytes of file, with groups to spare or just enough.
         11 => {
             let n = rng.between(10_919, 10_922);
-            let mut bytes = file(&[0], &empty_groups(n));
+            let mut bytes = joined(&[&field(1, &[0]), &times(n, &[2, 0, 0, 3, 0, 0])]);
             if rng.below(2) == 0 {
                 bytes.resize(rng.between(65_530, 65_537), *rng.pick(&[0, 2]));
             }
@@ -898,7 +921,9 @@ pub fn limit_file_of(rng: &mut Rng, sort: usize) -> Vec<u8> {
                 return bytes;
             }
             let chain = rng.between(1, 230);
-            let uses = rng.between(1, 21_700 / chain).min(60);
+            // Seldom as many steps as the file can hold.
+            let most = if rng.below(10) == 0 { 60 } else { 6 };
+            let uses = rng.between(1, 21_700 / chain).min(most);
             let (term, mut groups) = long_unfolding(chain, uses);
             match rng.below(6) {
                 0 => {
@@ -928,9 +953,43 @@ pub fn limit_file_of(rng: &mut Rng, sort: usize) -> Vec<u8> {
             ]);
             file(&term, &empty_groups(1))
         }
+        // State over the bytes with something in R, W, Y and B.
+        16 => {
+            let n = rng.between(509, 670);
+            let k = (8172 - 3 * (4 * n + 11) - 1) / 2 + rng.below(2);
+            let (term, groups) = all_four(n, k);
+            file(&term, &groups)
+        }
         // About 253 abstractors in the term itself.
         _ => file(&deep_train(rng), &[]),
     }
+}
+
+/// [a:τ][d:[τ]τ][f:⟨a⟩⟨d⟩[V]1]⟨K⟩f where K is nested k deep, and
+/// V = ⟨[N]a⟩[[N]τ][τ]τ, with N nested n deep, is [τ]τ after a removal. When
+/// f's last variable is typed R has V twice, W has K, Y has a, and B is V:
+/// 3 (4n + 11) + (2k + 1) + 19 bytes. K still waits at τ.
+pub fn all_four(n: usize, k: usize) -> (Vec<u8>, Vec<Group>) {
+    let v = joined(&[
+        &[0xfe, 0xff],
+        &nested(n),
+        &[3, 0xff, 0xff],
+        &nested(n),
+        &[0, 0xff, 0, 0],
+    ]);
+    let term = joined(&[
+        &[0xff, 0, 0xff, 0xff, 0, 0, 0xff, 0xfe, 2, 0xfe, 1, 0xff],
+        &v,
+        &[1, 0xfe],
+        &nested(k),
+        &[1],
+    ]);
+    let mut groups = empty_groups(3);
+    groups[1].right.push(Step {
+        kind: REMOVAL,
+        place: 0,
+    });
+    (term, groups)
 }
 
 /// The term with `n` empty groups, sometimes one fewer or more.

@@ -5,7 +5,6 @@ use crate::frame::{apply, body_outgrown, Entry, Frame, Step, LOCAL, REMOVAL};
 use crate::gen::Rng;
 use crate::term::{Term, Term::*};
 use crate::walk::walk;
-use std::collections::HashMap;
 
 /// Every step that can be applied to the body, from left to right.
 pub fn possible_steps(frame: &Frame, body: &Term) -> Vec<Step> {
@@ -39,8 +38,9 @@ fn collect(
             }
             at + 1
         }
-        App(k, rest) => {
-            if matches!(&**rest, Abs(_, scope) if !scope.uses(1)) {
+        App(wagon) => {
+            let (k, rest) = wagon.parts();
+            if matches!(rest, Abs(next) if !next.parts().1.uses(1)) {
                 steps.push(Step {
                     kind: REMOVAL,
                     place: at,
@@ -49,7 +49,8 @@ fn collect(
             let after = collect(k, at + 1, paired, false, steps);
             collect(rest, after, paired, true, steps)
         }
-        Abs(u, rest) => {
+        Abs(wagon) => {
+            let (u, rest) = wagon.parts();
             let after = collect(u, at + 1, paired, false, steps);
             paired.push(applied);
             let after = collect(rest, after, paired, false, steps);
@@ -126,42 +127,27 @@ pub fn reduce(frame: &Frame, body: &Term, order: Order, rng: &mut Rng) -> Reduct
 /// Left and right steps that make the two bodies identical, if the two
 /// reductions meet: the fewest such steps, or with `far` the most.
 pub fn meet(left: &Reduction, right: &Reduction, far: bool) -> Option<(Vec<Step>, Vec<Step>)> {
-    let places: HashMap<Vec<u8>, usize> = {
-        let bodies = right.bodies.iter().map(Term::bytes).enumerate();
-        let mut places = HashMap::new();
-        for (i, bytes) in bodies {
-            if far {
-                places.insert(bytes, i);
-            } else {
-                places.entry(bytes).or_insert(i);
+    let mut best: Option<(usize, usize)> = None;
+    for (i, a) in left.bodies.iter().enumerate() {
+        for (j, b) in right.bodies.iter().enumerate() {
+            let better = match best {
+                None => true,
+                Some((m, n)) if far => i + j > m + n,
+                Some((m, n)) => i + j < m + n,
+            };
+            if better && a.size() == b.size() && a == b {
+                best = Some((i, j));
             }
         }
-        places
-    };
-    let meetings = left
-        .bodies
-        .iter()
-        .enumerate()
-        .filter_map(|(i, body)| places.get(&body.bytes()).map(|&j| (i, j)));
-    let (i, j) = if far {
-        meetings.max_by_key(|(i, j)| i + j)?
-    } else {
-        meetings.min_by_key(|(i, j)| i + j)?
-    };
+    }
+    let (i, j) = best?;
     Some((left.steps[..i].to_vec(), right.steps[..j].to_vec()))
 }
 
-/// Whether the two bodies are seen to reach one identical term.
-pub fn equivalent(frame: &Frame, a: &Term, b: &Term, rng: &mut Rng) -> bool {
-    if a == b {
-        return true;
-    }
-    if body_outgrown(frame, a) || body_outgrown(frame, b) {
-        return false;
-    }
-    let left = reduce(frame, a, Order::RemovalFirst, rng);
-    let right = reduce(frame, b, Order::RemovalFirst, rng);
-    meet(&left, &right, false).is_some()
+/// Whether the body is seen to reach a term of the other reduction.
+pub fn equivalent(frame: &Frame, body: &Term, wanted: &Reduction, rng: &mut Rng) -> bool {
+    let own = reduce(frame, body, Order::RemovalFirst, rng);
+    meet(&own, wanted, false).is_some()
 }
 
 /// Groups for every comparison of a walk over the closed term, in the walk's

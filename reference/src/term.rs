@@ -1,14 +1,15 @@
 //! Terms: reading, writing, measures, lifting, degree.
 
+use crate::mistakes::{made, Mistake};
 use crate::refusal::*;
+use std::rc::Rc;
 
 /// No term, compared body or written result is longer.
 pub const MAX_TERM_BYTES: usize = 4096;
 /// No place is in the scope of more abstractors.
 pub const MAX_SCOPE: u64 = 253;
 
-/// A term: wagons, then a terminal. The second part of a wagon is the rest of
-/// its train.
+/// A term: wagons, then a terminal.
 #[derive(Clone, PartialEq, Eq, Debug)]
 pub enum Term {
     /// τ
@@ -16,19 +17,53 @@ pub enum Term {
     /// A variable with its index, 1 for the nearest abstractor.
     Var(u64),
     /// ⟨K⟩B
-    App(Box<Term>, Box<Term>),
+    App(Rc<Wagon>),
     /// [U]B
-    Abs(Box<Term>, Box<Term>),
+    Abs(Rc<Wagon>),
 }
 
 use Term::*;
 
+/// A wagon and the rest of its train. Terms share their wagons, which keep
+/// their measures so that these are counted once. `app` and `abs` make them.
+#[derive(PartialEq, Eq, Debug)]
+pub struct Wagon {
+    size: usize,
+    /// The most abstractors of the term that any of its places is in the
+    /// scope of.
+    scopes: u64,
+    /// The farthest abstractor outside the term that an index of it means,
+    /// counted outward from its first byte; 0 if it is closed.
+    reach: u64,
+    inner: Term,
+    rest: Term,
+}
+
+impl Wagon {
+    /// The K or U, and the rest.
+    pub fn parts(&self) -> (&Term, &Term) {
+        (&self.inner, &self.rest)
+    }
+}
+
 pub fn app(k: Term, rest: Term) -> Term {
-    App(Box::new(k), Box::new(rest))
+    App(Rc::new(Wagon {
+        size: 1 + k.size() + rest.size(),
+        scopes: k.scopes().max(rest.scopes()),
+        reach: k.reach().max(rest.reach()),
+        inner: k,
+        rest,
+    }))
 }
 
 pub fn abs(u: Term, rest: Term) -> Term {
-    Abs(Box::new(u), Box::new(rest))
+    Abs(Rc::new(Wagon {
+        size: 1 + u.size() + rest.size(),
+        scopes: u.scopes().max(1 + rest.scopes()),
+        reach: u.reach().max(rest.reach().saturating_sub(1)),
+        inner: u,
+        rest,
+    }))
 }
 
 const APPLICATOR: u8 = 0xfe;
@@ -95,12 +130,14 @@ fn test_scopes(term: &Term, at: usize, depth: u64) -> Result<usize, Refusal> {
         Tau => Ok(at + 1),
         Var(index) if *index > depth => refuse(BEYOND_SCOPE, at),
         Var(_) => Ok(at + 1),
-        App(k, rest) => {
+        App(wagon) => {
+            let (k, rest) = wagon.parts();
             let after = test_scopes(k, at + 1, depth)?;
             test_scopes(rest, after, depth)
         }
-        Abs(_, _) if depth == MAX_SCOPE => refuse(TOO_DEEP, at),
-        Abs(u, rest) => {
+        Abs(_) if depth == MAX_SCOPE => refuse(TOO_DEEP, at),
+        Abs(wagon) => {
+            let (u, rest) = wagon.parts();
             let after = test_scopes(u, at + 1, depth)?;
             test_scopes(rest, after, depth + 1)
         }
@@ -112,18 +149,29 @@ impl Term {
     pub fn size(&self) -> usize {
         match self {
             Tau | Var(_) => 1,
-            App(inner, rest) | Abs(inner, rest) => 1 + inner.size() + rest.size(),
+            App(wagon) | Abs(wagon) => wagon.size,
+        }
+    }
+
+    fn scopes(&self) -> u64 {
+        match self {
+            Tau | Var(_) => 0,
+            App(wagon) | Abs(wagon) => wagon.scopes,
+        }
+    }
+
+    fn reach(&self) -> u64 {
+        match self {
+            Tau => 0,
+            Var(index) => *index,
+            App(wagon) | Abs(wagon) => wagon.reach,
         }
     }
 
     /// The largest number of abstractors that any place of the term is in the
     /// scope of, if its first byte is in the scope of `depth`.
     pub fn deepest_scope(&self, depth: u64) -> u64 {
-        match self {
-            Tau | Var(_) => depth,
-            App(k, rest) => k.deepest_scope(depth).max(rest.deepest_scope(depth)),
-            Abs(u, rest) => u.deepest_scope(depth).max(rest.deepest_scope(depth + 1)),
-        }
+        depth + self.scopes()
     }
 
     /// Adds `n` to each index that points outside the term.
@@ -134,11 +182,18 @@ impl Term {
     /// Adds `n` to each index that points beyond the `bound` nearest scopes.
     fn lift_beyond(&self, n: u64, bound: u64) -> Term {
         match self {
+            _ if self.reach() <= bound => self.clone(),
             Tau => Tau,
-            Var(index) if *index > bound => Var(index + n),
-            Var(index) => Var(*index),
-            App(k, rest) => app(k.lift_beyond(n, bound), rest.lift_beyond(n, bound)),
-            Abs(u, rest) => abs(u.lift_beyond(n, bound), rest.lift_beyond(n, bound + 1)),
+            Var(index) => Var(index + n),
+            App(wagon) => {
+                let (k, rest) = wagon.parts();
+                app(k.lift_beyond(n, bound), rest.lift_beyond(n, bound))
+            }
+            Abs(wagon) => {
+                let (u, rest) = wagon.parts();
+                let inside = bound + u64::from(!made(Mistake::LiftsBoundIndices));
+                abs(u.lift_beyond(n, bound), rest.lift_beyond(n, inside))
+            }
         }
     }
 
@@ -146,10 +201,11 @@ impl Term {
     /// from the term's first byte.
     pub fn uses(&self, index: u64) -> bool {
         match self {
+            _ if self.reach() < index => false,
             Tau => false,
             Var(own) => *own == index,
-            App(k, rest) => k.uses(index) || rest.uses(index),
-            Abs(u, rest) => u.uses(index) || rest.uses(index + 1),
+            App(wagon) => wagon.inner.uses(index) || wagon.rest.uses(index),
+            Abs(wagon) => wagon.inner.uses(index) || wagon.rest.uses(index + 1),
         }
     }
 
@@ -157,11 +213,11 @@ impl Term {
     /// index that passed over it falls by 1. The term must not use it.
     pub fn without(&self, index: u64) -> Term {
         match self {
+            _ if self.reach() < index => self.clone(),
             Tau => Tau,
-            Var(own) if *own > index => Var(own - 1),
-            Var(own) => Var(*own),
-            App(k, rest) => app(k.without(index), rest.without(index)),
-            Abs(u, rest) => abs(u.without(index), rest.without(index + 1)),
+            Var(own) => Var(own - 1),
+            App(wagon) => app(wagon.inner.without(index), wagon.rest.without(index)),
+            Abs(wagon) => abs(wagon.inner.without(index), wagon.rest.without(index + 1)),
         }
     }
 
@@ -176,8 +232,9 @@ impl Term {
         match self {
             Tau => 1,
             Var(index) => 1 + scope[scope.len() - *index as usize],
-            App(_, rest) => rest.degree_after(scope),
-            Abs(u, rest) => {
+            App(wagon) => wagon.rest.degree_after(scope),
+            Abs(wagon) => {
+                let (u, rest) = wagon.parts();
                 let of_u = u.degree_after(scope);
                 scope.push(of_u);
                 let of_rest = rest.degree_after(scope);
@@ -201,15 +258,15 @@ impl Term {
                 assert!((1..=MAX_SCOPE).contains(index), "an index has one byte");
                 bytes.push(*index as u8);
             }
-            App(k, rest) => {
+            App(wagon) => {
                 bytes.push(APPLICATOR);
-                k.write(bytes);
-                rest.write(bytes);
+                wagon.inner.write(bytes);
+                wagon.rest.write(bytes);
             }
-            Abs(u, rest) => {
+            Abs(wagon) => {
                 bytes.push(ABSTRACTOR);
-                u.write(bytes);
-                rest.write(bytes);
+                wagon.inner.write(bytes);
+                wagon.rest.write(bytes);
             }
         }
     }

@@ -2,6 +2,7 @@
 
 use crate::file::Group;
 use crate::frame::{apply, body_outgrown, type_of, type_of_variable, Entry, Frame, Step};
+use crate::mistakes::{made, Mistake};
 use crate::refusal::*;
 use crate::term::{Term, Term::*, MAX_SCOPE};
 
@@ -27,7 +28,7 @@ pub fn walk(term: &Term, supply: &mut Supply) -> (usize, Result<(), Refusal>) {
         supply,
         comparisons: 0,
     };
-    let end = walk.own_text(Vec::new(), 0, term);
+    let end = walk.own_text(&mut Vec::new(), 0, term);
     (walk.comparisons, end)
 }
 
@@ -38,32 +39,45 @@ struct Walk<'a, 'b> {
 
 impl Walk<'_, '_> {
     /// The rules for the term's own text: `b`, with its first byte at `at` in
-    /// the term, after `r`, with nothing waiting.
-    fn own_text(&mut self, mut r: Frame, mut at: usize, mut b: &Term) -> Result<(), Refusal> {
+    /// the term, after `r`, with nothing waiting. Leaves the entries of `r`
+    /// that it found.
+    fn own_text(&mut self, r: &mut Frame, mut at: usize, mut b: &Term) -> Result<(), Refusal> {
+        let found = r.len();
         let mut w: Vec<Waiting> = Vec::new();
         loop {
-            if state_outgrown(&r, &w, &[], b) {
+            if made(Mistake::OutgrownAfterTheRule) && *b == Tau {
+                end_at_tau(&w)?;
+            }
+            if state_outgrown(r, &w, &[], b) {
                 return refuse(OUTGROWN, at);
             }
             match b {
-                Tau => return end_at_tau(&w),
-                Var(index) => return self.copied_text(r, w, at, *index),
-                App(k, rest) => {
-                    self.own_text(r.clone(), at + 1, k)?;
+                Tau => {
+                    end_at_tau(&w)?;
+                    break;
+                }
+                Var(index) => {
+                    self.copied_text(r, w, at, *index)?;
+                    break;
+                }
+                App(wagon) => {
+                    let (k, rest) = wagon.parts();
+                    self.own_text(r, at + 1, k)?;
                     w.push(Waiting {
                         place: at,
-                        k: (**k).clone(),
+                        k: k.clone(),
                     });
                     at += 1 + k.size();
                     b = rest;
                 }
-                Abs(u, rest) => {
-                    self.own_text(r.clone(), at + 1, u)?;
+                Abs(wagon) => {
+                    let (u, rest) = wagon.parts();
+                    self.own_text(r, at + 1, u)?;
                     match w.pop() {
-                        None => r.push(Entry::Single((**u).clone())),
+                        None => r.push(Entry::Single(u.clone())),
                         Some(last) => {
-                            self.compare(&r, &last, u)?;
-                            r.push(Entry::Pair(last.k, (**u).clone()));
+                            self.compare(r, &last, u)?;
+                            r.push(Entry::Pair(last.k, u.clone()));
                         }
                     }
                     lift_waiting(&mut w);
@@ -72,45 +86,50 @@ impl Walk<'_, '_> {
                 }
             }
         }
+        r.truncate(found);
+        Ok(())
     }
 
     /// The rules for copied text: from the variable `index` of the term's own
     /// text at `place`.
     fn copied_text(
         &mut self,
-        mut r: Frame,
+        r: &mut Frame,
         mut w: Vec<Waiting>,
         place: usize,
         index: u64,
     ) -> Result<(), Refusal> {
         let mut y: Vec<Term> = Vec::new();
-        let mut b = type_of_variable(&r, index);
+        let mut b = type_of_variable(r, index);
         loop {
-            if state_outgrown(&r, &w, &y, &b) {
+            if state_outgrown(r, &w, &y, &b) {
                 return refuse(OUTGROWN, place);
             }
-            match b {
+            match &b {
                 Tau => {
                     assert!(y.is_empty(), "Y is empty at every τ of a check");
                     return end_at_tau(&w);
                 }
-                Var(index) => b = type_of_variable(&r, index),
-                App(k, rest) => {
-                    y.push(*k);
-                    b = *rest;
+                Var(index) => b = type_of_variable(r, *index),
+                App(wagon) => {
+                    let (k, rest) = wagon.parts();
+                    y.push(k.clone());
+                    b = rest.clone();
                 }
-                Abs(u, rest) => {
-                    if let Some(k) = y.pop() {
-                        r.push(Entry::Pair(k, *u));
+                Abs(wagon) => {
+                    let (u, rest) = wagon.parts();
+                    let from_w = made(Mistake::TakesFromWFirst) && !w.is_empty();
+                    if let Some(k) = if from_w { None } else { y.pop() } {
+                        r.push(Entry::Pair(k, u.clone()));
                     } else if let Some(last) = w.pop() {
-                        self.compare(&r, &last, &u)?;
-                        r.push(Entry::Pair(last.k, *u));
+                        self.compare(r, &last, u)?;
+                        r.push(Entry::Pair(last.k, u.clone()));
                     } else {
-                        r.push(Entry::Single(*u));
+                        r.push(Entry::Single(u.clone()));
                     }
                     lift_waiting(&mut w);
                     y = y.iter().map(|k| k.lift(1)).collect();
-                    b = *rest;
+                    b = rest.clone();
                 }
             }
         }
@@ -153,13 +172,20 @@ fn replay(r: &Frame, mut body: Term, steps: &[Step], place: usize) -> Result<Ter
 }
 
 fn end_at_tau(w: &[Waiting]) -> Result<(), Refusal> {
-    match w.last() {
+    let last = match made(Mistake::PlaceOfTheFirst) {
+        false => w.last(),
+        true => w.first(),
+    };
+    match last {
         None => Ok(()),
         Some(last) => refuse(STILL_WAITING, last.place),
     }
 }
 
 fn lift_waiting(w: &mut [Waiting]) {
+    if made(Mistake::WaitingNotLifted) {
+        return;
+    }
     for waiting in w {
         waiting.k = waiting.k.lift(1);
     }
@@ -185,5 +211,9 @@ fn state_outgrown(r: &Frame, w: &[Waiting], y: &[Term], b: &Term) -> bool {
     }
     bytes += b.size();
     scope = scope.max(b.deepest_scope(depth));
-    bytes > MAX_STATE_BYTES || scope > MAX_SCOPE
+    let most = match made(Mistake::StateLimit) {
+        false => MAX_STATE_BYTES,
+        true => MAX_STATE_BYTES - 2,
+    };
+    bytes > most || scope > MAX_SCOPE
 }

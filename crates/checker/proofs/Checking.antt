@@ -29,7 +29,7 @@ use Rattle.files.proofs.Answers.{term-bytes}
 use Rattle.walk.specs.Contracts.{Answers, answer-passed, answer-stopped, Walkable, WalkAnswer}
 use Rattle.checker.specs.Answer.{CheckedAs}
 use Rattle.checker.specs.declared.CheckAnswer.{CheckAnswer}
-use Rattle.walk.specs.declared.Walked.{Walked}
+use Rattle.copies.specs.declared.Walked.{Walked}
 use Rattle.checker.proofs.Left.{same-left, groups-drop, drop-groups}
 
 -- an opened file's answer

@@ -1,9 +1,17 @@
 // The calls for programs in C and Rust. A slice is a pointer and a length; an answer is written to an array of numbers that
 // the caller lends.
+ghost use mathlib.Core.Path.{_≡_};
+ghost use Rattle.examine.specs.Inspect.{termAnswer};
+ghost use Rattle.files.specs.File.{fileAnswer};
+ghost use Rattle.files.specs.Check.{checkFile};
+ghost use Rattle.calls.specs.Answers.{typeAnswer, stepAnswer};
+ghost use Rattle.exports.specs.Numbers.{termNumbers, fileNumbers, checkNumbers, noneOf, Given};
 
 // Number, place, degree.
 #[no_mangle]
-pub extern "C" fn bijterne_examine_term(s: &[u8], answer: &mut [u64; 3]) {
+pub extern "C" fn bijterne_examine_term(s: &[u8], answer: &mut [u64; 3])
+    ensures { λ r. ⌜ now (answer .exit) ≡ termNumbers (termAnswer (now (s .entry))) ⌝ }
+{
     let a = examine::examine_term(s);
     let number = a.number;
     let place = a.place;
@@ -13,7 +21,9 @@ pub extern "C" fn bijterne_examine_term(s: &[u8], answer: &mut [u64; 3]) {
 
 // Number, place, and the length of the term's part, which starts at byte 3 of an accepted file.
 #[no_mangle]
-pub extern "C" fn bijterne_examine_file(s: &[u8], answer: &mut [u64; 3]) {
+pub extern "C" fn bijterne_examine_file(s: &[u8], answer: &mut [u64; 3])
+    ensures { λ r. ⌜ now (answer .exit) ≡ fileNumbers (fileAnswer (now (s .entry))) ⌝ }
+{
     let mut number: u32 = 0;
     let mut place: usize = 0;
     let part = calls::examine_file(s, &mut number, &mut place);
@@ -23,7 +33,9 @@ pub extern "C" fn bijterne_examine_file(s: &[u8], answer: &mut [u64; 3]) {
 
 // Number, place and the length written; answers 1 for 'none', and then nothing is written.
 #[no_mangle]
-pub extern "C" fn bijterne_write_type(s: &[u8], out: &mut [u8], answer: &mut [u64; 3]) -> u32 {
+pub extern "C" fn bijterne_write_type(s: &[u8], out: &mut [u8], answer: &mut [u64; 3]) -> u32
+    ensures { λ r. ⌜ (r ≡ noneOf (typeAnswer (now (s .entry)) (now (out .entry)))) × Given (typeAnswer (now (s .entry)) (now (out .entry))) (now (answer .entry)) (now (answer .exit)) (now (out .exit)) ⌝ }
+{
     let a = calls::write_type(s, out);
     match a {
         calls::TypeAnswer::Nothing => 1,
@@ -42,7 +54,9 @@ pub extern "C" fn bijterne_apply_step(
     place: u16,
     out: &mut [u8],
     answer: &mut [u64; 3],
-) {
+)
+    ensures { λ r. ⌜ Given (stepAnswer (now (s .entry)) (record { kind = kind; place = place }) (now (out .entry))) (now (answer .entry)) (now (answer .exit)) (now (out .exit)) ⌝ }
+{
     let a = calls::apply_step(s, kind, place, out);
     let number = a.number;
     let at = a.place;
@@ -52,7 +66,9 @@ pub extern "C" fn bijterne_apply_step(
 
 // Number, place, comparisons completed, degree.
 #[no_mangle]
-pub extern "C" fn bijterne_check(s: &[u8], answer: &mut [u64; 4]) {
+pub extern "C" fn bijterne_check(s: &[u8], answer: &mut [u64; 4])
+    ensures { λ r. ⌜ now (answer .exit) ≡ checkNumbers (checkFile (now (s .entry))) ⌝ }
+{
     let a = checker::check(s);
     let number = a.number;
     let place = a.place;

@@ -51,6 +51,10 @@ pub record EmptyRecord (r : FrameRecord) : Type 0 where
   pub no-bytes : r .end ≡ 0
   pub holds : (w : List ℕ) → length w ≡ longestState → Stored w r ε
 
+-- The record of these parts.
+abbrev pub recordOf : List ℕ → ℕ → ℕ → FrameRecord
+recordOf starts len end = record { starts = starts; len = len; end = end }
+
 -- The record with one more entry, whose bytes end at e.
 abbrev pub pushed : FrameRecord → ℕ → FrameRecord
 pushed r e = record { starts = set (r .starts) (r .len) (r .end); len = r .len + 1; end = e }

@@ -4,7 +4,7 @@ ghost use mathlib.Core.Path.{_≡_};
 ghost use Prim.Native.Nat.{_≤_, _<_};
 ghost use Rattle.code.specs.Limits.{longestState, mostAbstractors};
 ghost use Rattle.code.specs.Code.{Tabled};
-ghost use Rattle.frames.specs.Stored.{Holding, EmptyRecord, Standing, EndAt, EntryAt, Parted, Looked, pushed};
+ghost use Rattle.frames.specs.Stored.{Holding, EmptyRecord, Standing, EndAt, EntryAt, Parted, Looked, pushed, recordOf};
 ghost use Rattle.frames.specs.Claims.{FrameLaws};
 use code::End;
 use code::table;
@@ -86,16 +86,24 @@ fn parts_of(t: &[i32; 256], work: &[u8; 8192], p: usize, e: usize) -> Span
     }
 }
 
-// The parts of the entry that index k means, with a table of what each byte does to the balance.
-pub fn entry_at_by(t: &[i32; 256], work: &[u8; 8192], f: FrameRecord, k: usize) -> Span
-    requires { ⌜ Tabled (now t) × Holding (now work) f × (1 ≤ k) × (k ≤ f .len) ⌝ }
-    ensures { λ r. ⌜ Looked (now (work .entry)) f k r ⌝ }
+// The parts of the entry that index k means, with a table of what each byte does to the balance. The record comes in its
+// parts, so that looking an entry up does not copy it.
+pub fn entry_at_by(
+    t: &[i32; 256],
+    work: &[u8; 8192],
+    starts: &[u16; 253],
+    len: usize,
+    end: usize,
+    k: usize,
+) -> Span
+    requires { ⌜ Tabled (now t) × Holding (now work) (recordOf (now starts) len end) × (1 ≤ k) × (k ≤ len) ⌝ }
+    ensures { λ r. ⌜ Looked (now (work .entry)) (recordOf (now (starts .entry)) len end) k r ⌝ }
 {
-    let i = f.len - k;
-    let p = wide(f.starts[i]);
-    let mut e = f.end;
+    let i = len - k;
+    let p = wide(starts[i]);
+    let mut e = end;
     if k > 1 {
-        e = wide(f.starts[i + 1]);
+        e = wide(starts[i + 1]);
     }
     parts_of(t, work, p, e)
 }
@@ -106,7 +114,7 @@ pub fn entry_at(work: &[u8; 8192], f: FrameRecord, k: usize) -> Span
     ensures { λ r. ⌜ Looked (now (work .entry)) f k r ⌝ }
 {
     let t = table();
-    entry_at_by(&t, work, f, k)
+    entry_at_by(&t, work, &f.starts, f.len, f.end, k)
 }
 
 pub fn frame_laws()

@@ -18,7 +18,7 @@ use Rattle.code.specs.Scope.{scope}
 use Rattle.code.proofs.RoundTrip.{encode-bytes}
 use Rattle.code.proofs.Parts.{stands-unique}
 use Rattle.indices.specs.Shift.{shift, shiftByte, uses}
-use Rattle.indices.specs.Stack.{stackLength, Ready, Advanced}
+use Rattle.indices.specs.Stack.{Roomy, Ready, Advanced}
 use Rattle.indices.specs.Passes.{Standing, Measured, Shiftable}
 use Rattle.indices.proofs.Pending.{Item, item, next, deepest, isNone, used, shiftedText, deepest-next, used-next, shifted-next}
 use Rattle.indices.proofs.Walk.{Walk, scope-size, walk-start, walk-end, unfinished, walk-next, here-byte, here-scope, ready}
@@ -40,11 +40,11 @@ pub record Measuring (s : List ℕ) (from e : ℕ) (stack : List ℕ) (sp i m : 
   pub most : max m (deepest work) ≡ scope t
   pub use-seen : u || used work ≡ isNone (lower 0 t)
 
-pub measuring-start : {s : List ℕ} {from e : ℕ} {t : Term} (stack : List ℕ) → Stands s from e t → e ≤ from + longestTerm → length stack ≡ stackLength → getD stack 0 0 ≡ 0
+pub measuring-start : {s : List ℕ} {from e : ℕ} {t : Term} (stack : List ℕ) → Stands s from e t → e ≤ from + longestTerm → Roomy stack from e 0
     → Measuring s from e stack 1 from 0 false t
 unfolding deepest used
-measuring-start {t = t} stack h l r z =
-    record { work = item 0 (h .coded) ∷ []; walk = walk-start stack h (omega (arith, scope-size t, h .place)) r z; most = omega arith; use-seen = or-false _ }
+measuring-start {t = t} stack h l r =
+    record { work = item 0 (h .coded) ∷ []; walk = walk-start stack h (omega (arith, scope-size t, h .place)) r; most = omega arith; use-seen = or-false _ }
 
 module _ {s : List ℕ} {from e : ℕ} {stack : List ℕ} {sp i m : ℕ} {u : Bool} where
   pub measuring-next : {t : Term} {stack′ : List ℕ} {sp′ x m′ : ℕ} {u′ : Bool} → Measuring s from e stack sp i m u t → i < e
@@ -64,7 +64,7 @@ module _ {s : List ℕ} {from e : ℕ} {stack : List ℕ} {sp i m : ℕ} {u : Bo
           }
 
   pub measuring-ready : Standing s from e → ((t : Term) → Stands s from e t → Measuring s from e stack sp i m u t) → i < e → Ready stack sp
-  measuring-ready g v h = let w = v (g .term) (g .stands) in ready (w .work) (w .walk) (g .short) h
+  measuring-ready g v h = let w = v (g .term) (g .stands) in ready (w .work) (w .walk) h
 
   pub measured : e ≤ i → ((t : Term) → Stands s from e t → Measuring s from e stack sp i m u t) → Measured s from e m u
   unfolding deepest used
@@ -89,20 +89,20 @@ pub record Shifting (up down c : ℕ) (s₀ s : List ℕ) (from e : ℕ) (stack 
   pub result : sets s i (shiftedText up down work) ≡ sets s₀ from (encode (shift up down c t))
 
 module _ {up down c : ℕ} where
-  pub shifting-start : {s : List ℕ} {from e : ℕ} (stack : List ℕ) → Shiftable s from e up down c → length stack ≡ stackLength → getD stack 0 0 ≡ c
+  pub shifting-start : {s : List ℕ} {from e : ℕ} (stack : List ℕ) → Shiftable s from e up down c → Roomy stack from e c
       → (t : Term) → Stands s from e t → Shifting up down c s s from e stack 1 from t
   unfolding shiftedText
-  shifting-start stack g r z t h =
+  shifting-start stack g r t h =
       record {
         work = item c (h .coded) ∷ [];
-        walk = walk-start stack h (rw (stands-unique h (g .standing .stands) .0) (g .shallow)) r z;
+        walk = walk-start stack h (rw (stands-unique h (g .standing .stands) .0) (g .shallow)) r;
         bytes = rw (append-nil (encode (shift up down c t)), stands-unique h (g .standing .stands) .0) (encode-bytes (g .coded));
         result = rw (append-nil (encode (shift up down c t)));
       }
 
   module _ {s₀ s : List ℕ} {from e : ℕ} {stack : List ℕ} {sp i : ℕ} {t : Term} (v : Shifting up down c s₀ s from e stack sp i t) where
-    pub shifting-ready : e ≤ from + longestTerm → i < e → Ready stack sp
-    shifting-ready l h = ready (v .work) (v .walk) l h
+    pub shifting-ready : i < e → Ready stack sp
+    shifting-ready h = ready (v .work) (v .walk) h
 
     pub shifted-byte : {x : ℕ} → i < e → x ≡ getD stack (sp - 1) 0 → shiftByte up down x (getD s i 0) < 256
     shifted-byte {x} h p = go (v .work) (v .walk) (v .bytes)

@@ -41,14 +41,14 @@ module _ {a : List ℕ} {b : ℕ} where
   pub advanced-terminal : (n : ℕ) → Ready a n → b < 254 → Advanced a a n (n - 1) b
   unfolding stackOf after
   advanced-terminal zero r h = absurd (omega (arith, r .positive))
-  advanced-terminal (suc n) r h = record { scopes = rw (lt-ltb b 254 h, less-one n); room = r .room; small = omega arith }
+  advanced-terminal (suc n) r h = record { scopes = rw (lt-ltb b 254 h, less-one n); same-length = refl; small = omega arith }
 
   pub advanced-operator : (n x : ℕ) → Ready a n → 254 ≤ b → x ≡ bodyScope b (getD a (n - 1) 0) → Advanced a (set (set a (n - 1) x) n (getD a (n - 1) 0)) n (n + 1) b
   unfolding stackOf after
   advanced-operator zero x r h e = absurd (omega (arith, r .positive))
   advanced-operator (suc n) x r h e =
       record {
-        scopes = rw (le-ltb b 254 h, less-one n, add-one (suc n)) (pushed a n x (getD a n 0) (omega (arith, r .room, r .fits)) ∙ ap (λ y. getD a n 0 ∷ y ∷ stackOf a n) (rw (less-one n) at e));
-        room = simp length-set (r .room);
+        scopes = rw (le-ltb b 254 h, less-one n, add-one (suc n)) (pushed a n x (getD a n 0) (omega (arith, r .fits)) ∙ ap (λ y. getD a n 0 ∷ y ∷ stackOf a n) (rw (less-one n) at e));
+        same-length = simp length-set refl;
         small = omega arith;
       }

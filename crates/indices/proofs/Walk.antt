@@ -13,7 +13,7 @@ use Rattle.code.specs.Claims.{Stands}
 use Rattle.code.specs.Scope.{scope}
 use Rattle.code.proofs.RoundTrip.{length-encode}
 use Rattle.code.proofs.Parts.{first-byte, drop-more, stands-rest}
-use Rattle.indices.specs.Stack.{stackLength, stackOf, Ready, Advanced}
+use Rattle.indices.specs.Stack.{stackOf, Roomy, Ready, Advanced}
 use Rattle.indices.proofs.Stacked.{length-stack, top}
 use Rattle.indices.proofs.Pending.{Item, item, next, byte, text, scopes, deepest, text-next, scopes-next, deepest-next, count-text}
 
@@ -21,7 +21,7 @@ pub record Walk (s : List ℕ) (from e : ℕ) (stack : List ℕ) (sp i : ℕ) (W
   pub bytes : drop i s ≡ text W ++ drop e s
   pub place : e ≡ i + length (text W)
   pub stacked : stackOf stack sp ≡ scopes W
-  pub room : length stack ≡ stackLength
+  pub room : e + 1 < from + (length stack + length stack)
   pub small : sp + from ≤ i + 1
   pub deep : deepest W < longestTerm
 
@@ -33,15 +33,15 @@ scope-size (app K B) = omega (arith, scope-size K, scope-size B)
 scope-size (abs U B) = omega (arith, scope-size U, scope-size B)
 
 -- At first the whole term is to be read.
-pub walk-start : {s : List ℕ} {from e c : ℕ} {t : Term} (stack : List ℕ) (h : Stands s from e t) → c + scope t < longestTerm → length stack ≡ stackLength → getD stack 0 0 ≡ c
+pub walk-start : {s : List ℕ} {from e c : ℕ} {t : Term} (stack : List ℕ) (h : Stands s from e t) → c + scope t < longestTerm → Roomy stack from e c
     → Walk s from e stack 1 from (item c (h .coded) ∷ [])
 unfolding text scopes deepest stackOf
-walk-start {s} {from} {e} {c} {t} stack h l r z =
+walk-start {s} {from} {e} {c} {t} stack h l r =
     record {
       bytes = rw (stands-rest h, append-nil (encode t)) (h .bytes);
       place = h .place ∙ simp (length-append, length-encode) (omega arith);
-      stacked = rw z;
-      room = r;
+      stacked = rw (r .first);
+      room = r .room;
       small = omega arith;
       deep = omega arith;
     }
@@ -56,15 +56,14 @@ module _ {s : List ℕ} {from e : ℕ} {stack : List ℕ} {sp i : ℕ} where
   unfolding text
   unfinished w h = omega (arith, w .place)
 
-  pub ready : (W : List Item) → Walk s from e stack sp i W → e ≤ from + longestTerm → i < e → Ready stack sp
+  pub ready : (W : List Item) → Walk s from e stack sp i W → i < e → Ready stack sp
   unfolding text scopes
-  ready [] w l h = absurd (unfinished w h)
-  ready (item d f ∷ W) w l h =
+  ready [] w h = absurd (unfinished w h)
+  ready (item d f ∷ W) w h =
       let n : sp ≡ suc (length (scopes W)) = sym (length-stack stack sp) ∙ ap length (w .stacked) in
       record {
-        room = w .room;
         positive = omega arith;
-        fits = omega (arith, count-text (item d f ∷ W), w .place, w .small);
+        fits = omega (arith, count-text (item d f ∷ W), w .place, w .small, w .room);
         shallow = rw (top stack sp (w .stacked)) (omega (arith, w .deep, deepest-next d f W));
       }
 
@@ -88,7 +87,7 @@ module _ {s : List ℕ} {from e : ℕ} {stack : List ℕ} {sp i : ℕ} where
           bytes = rw (add-one i, p, q) (rw (add-one i) at (drop-more s i 1 (byte t ∷ []) (text (next d f W) ++ drop e s) first refl));
           place = omega (arith, w .place, ap length (text-next d f W));
           stacked = a .scopes ∙ rw (here-byte, w .stacked) (sym (scopes-next d f W));
-          room = a .room;
+          room = rw (a .same-length) (w .room);
           small = omega (arith, w .small, a .small);
           deep = omega (arith, w .deep, deepest-next d f W);
         }

@@ -8,10 +8,6 @@ use lib.Dec.{eqb, ltb}
 use lib.ListN.{length, getD}
 use Rattle.code.specs.Limits.{longestTerm}
 
--- The length of the array: a pass over at most 4,096 bytes has at most 2,048 parts before it, and one place more is written.
-abbrev pub stackLength : ℕ
-stackLength = 2049
-
 -- The first n values of an array, the latest first.
 unfoldable pub stackOf : List ℕ → ℕ → List ℕ
 stackOf a zero = []
@@ -27,14 +23,18 @@ unfolding bodyScope
 after b [] = []
 after b (d ∷ D) = cond (ltb b 0xfe) D (d ∷ bodyScope b d ∷ D)
 
+-- A pass over the bytes from a place up to e, at c, has room: each part before it has a byte, and each byte adds one at most.
+pub record Roomy (stack : List ℕ) (from e c : ℕ) : Type 0 where
+  pub room : e + 1 < from + (length stack + length stack)
+  pub first : getD stack 0 0 ≡ c
+
 -- A part is still to be read, and there is room for two.
 pub record Ready (stack : List ℕ) (sp : ℕ) : Type 0 where
-  pub room : length stack ≡ stackLength
   pub positive : 1 ≤ sp
-  pub fits : sp < stackLength
+  pub fits : sp < length stack
   pub shallow : getD stack (sp - 1) 0 < longestTerm
 
 pub record Advanced (stack stack′ : List ℕ) (sp sp′ b : ℕ) : Type 0 where
   pub scopes : stackOf stack′ sp′ ≡ after b (stackOf stack sp)
-  pub room : length stack′ ≡ stackLength
+  pub same-length : length stack′ ≡ length stack
   pub small : sp′ ≤ sp + 1

@@ -5,7 +5,7 @@ ghost use mathlib.Core.Bool.{_||_};
 ghost use Prim.Native.Nat.{_≤_, _<_, max};
 ghost use Rattle.calculus.specs.Terms.{lift};
 ghost use Rattle.indices.specs.Shift.{shift, shiftByte, uses};
-ghost use Rattle.indices.specs.Stack.{bodyScope, Ready, Advanced};
+ghost use Rattle.indices.specs.Stack.{bodyScope, Roomy, Ready, Advanced};
 ghost use Rattle.indices.specs.Passes.{Standing, Measured, Replaced, Liftable, LiftableAbove, Lowerable, Lowered, Shiftable};
 
 // The most abstractors of a term that any of its symbols has in scope, and whether index 1 of its surroundings is used.
@@ -43,7 +43,7 @@ fn body_scope(b: u8, d: u16) -> u16
 }
 
 // The stack after the byte b, whose scope is the latest on it.
-fn advance(stack: &mut [u16; 2049], sp: usize, b: u8) -> usize
+fn advance(stack: &mut [u16], sp: usize, b: u8) -> usize
     requires { ⌜ Ready (now stack) sp ⌝ }
     ensures { λ r. ⌜ Advanced (now (stack .entry)) (now (stack .exit)) sp r b ⌝ }
 {
@@ -70,11 +70,10 @@ fn used_by(used: bool, b: u8, d: usize) -> bool
     false
 }
 
-pub fn measure(s: &[u8], from: usize, to: usize) -> Measurement
-    requires { ⌜ Standing (now s) from to ⌝ }
+fn measure_with(s: &[u8], from: usize, to: usize, stack: &mut [u16]) -> Measurement
+    requires { ⌜ Standing (now s) from to × Roomy (now stack) from to 0 ⌝ }
     ensures { λ r. ⌜ Measured (now (s .entry)) from to (r .scope) (r .used) ⌝ }
 {
-    let mut stack: [u16; 2049] = [0; 2049];
     let mut sp: usize = 1;
     let mut scope: usize = 0;
     let mut used = false;
@@ -84,13 +83,26 @@ pub fn measure(s: &[u8], from: usize, to: usize) -> Measurement
         let d = scope_of(stack[sp - 1]);
         scope = larger(scope, d);
         used = used_by(used, b, d);
-        sp = advance(&mut stack, sp, b);
+        sp = advance(stack, sp, b);
         i += 1;
     }
     Measurement {
         scope: scope,
         used: used,
     }
+}
+
+// A short term needs a small stack only: filling a large one would cost more than the pass.
+pub fn measure(s: &[u8], from: usize, to: usize) -> Measurement
+    requires { ⌜ Standing (now s) from to ⌝ }
+    ensures { λ r. ⌜ Measured (now (s .entry)) from to (r .scope) (r .used) ⌝ }
+{
+    if to - from < 127 {
+        let mut small: [u16; 64] = [0; 64];
+        return measure_with(s, from, to, &mut small[..]);
+    }
+    let mut stack: [u16; 2049] = [0; 2049];
+    measure_with(s, from, to, &mut stack[..])
 }
 
 // The byte b with d abstractors of its term in scope, moved if it is an index that points outside.
@@ -109,20 +121,40 @@ fn shifted(b: u8, d: usize, up: usize, down: usize) -> u8
 }
 
 // Each index above c that points outside the term has `up` added and `down` taken away.
-fn shift_indices(s: &mut [u8], from: usize, to: usize, up: usize, down: usize, c: u16)
-    requires { ⌜ Shiftable (now s) from to up down c ⌝ }
+fn shift_with(
+    s: &mut [u8],
+    from: usize,
+    to: usize,
+    up: usize,
+    down: usize,
+    c: u16,
+    stack: &mut [u16],
+)
+    requires { ⌜ Shiftable (now s) from to up down c × Roomy (now stack) from to c ⌝ }
     ensures { λ r. ⌜ Replaced (shift up down c) (now (s .entry)) (now (s .exit)) from to ⌝ }
 {
-    let mut stack: [u16; 2049] = [c; 2049];
     let mut sp: usize = 1;
     let mut i = from;
     while i < to {
         let b = s[i];
         let d = scope_of(stack[sp - 1]);
         s[i] = shifted(b, d, up, down);
-        sp = advance(&mut stack, sp, b);
+        sp = advance(stack, sp, b);
         i += 1;
     }
+}
+
+fn shift_indices(s: &mut [u8], from: usize, to: usize, up: usize, down: usize, c: u16)
+    requires { ⌜ Shiftable (now s) from to up down c ⌝ }
+    ensures { λ r. ⌜ Replaced (shift up down c) (now (s .entry)) (now (s .exit)) from to ⌝ }
+{
+    if to - from < 127 {
+        let mut small: [u16; 64] = [c; 64];
+        shift_with(s, from, to, up, down, c, &mut small[..]);
+        return;
+    }
+    let mut stack: [u16; 2049] = [c; 2049];
+    shift_with(s, from, to, up, down, c, &mut stack[..]);
 }
 
 // The term that stands from `from` up to `to` is lifted by n with the cut-off c.

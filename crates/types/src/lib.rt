@@ -72,7 +72,7 @@ fn domain_of(body: &[u8; 4096], n: usize, work: &[u8; 8192], f: FrameRecord, k: 
             depth: depth,
         };
     }
-    let s = entry_at_by(&t, work, f, k - depth);
+    let s = entry_at_by(&t, work, &f.starts, f.len, f.end, k - depth);
     Domain {
         inside: false,
         start: s.domain,

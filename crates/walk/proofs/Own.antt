@@ -22,18 +22,20 @@ use Rattle.frames.proofs.Entries.{agree-refl, agree-part, agree-trans, stands-a
 use Rattle.frames.proofs.Laws.{stored-depth, stored-push, stored-agree}
 use Rattle.verdict.specs.Bounds.{waitingSize, waitingScope}
 use Rattle.verdict.specs.Verdict.{Waiting, terms, liftWaiting, Progress, Run, passed, stopped, andThen, compareNext, ownFrom}
-use Rattle.walk.specs.State.{Part, Sound, sound-single, sound-pair, queueLength, slotOf, Waits, Queue, queue-none, queue-one, Reached, Says, says-stopped, OwnAt, Room, Sized}
-use Rattle.walk.specs.Contracts.{SmallSlot, Noted, Figured, Written, Writable, Puts, TopAsked, TopPut, afterInner, OwnReady, InnerEnd, AbsHere, Continues, pass-stops, pass-goes, Passes}
-use Rattle.walk.specs.declared.Walked.{Walked}
-use Rattle.walk.specs.declared.Slot.{Slot}
-use Rattle.walk.specs.declared.Figures.{Figures}
+use Rattle.waiting.specs.Waiting.{Part, queueLength, slotOf, Waits, Queue, queue-none, queue-one, SmallSlot, Noted, Figured, Written, Writable, Puts, TopAsked, TopPut}
+use Rattle.copies.specs.State.{Sound, sound-single, sound-pair, Reached, Says, says-stopped, Room}
+use Rattle.walk.specs.State.{OwnAt, Sized}
+use Rattle.walk.specs.Contracts.{afterInner, OwnReady, InnerEnd, AbsHere, Continues, pass-stops, pass-goes, Passes}
+use Rattle.copies.specs.declared.Walked.{Walked}
+use Rattle.waiting.specs.declared.Slot.{Slot}
+use Rattle.waiting.specs.declared.Figures.{Figures}
 use Rattle.compare.specs.declared.Compared.{Compared}
 use Rattle.compare.specs.Compares.{Comparing, CompareSays, compare-passed, compare-stopped, Compares}
 use Rattle.walk.specs.declared.Passing.{Passing}
-use Rattle.walk.proofs.Texts.{positive, Two, text-app, text-abs, Inner, text-inner}
-use Rattle.walk.proofs.Queues.{queue-empty, queue-base, Last, queue-last, queue-deeper, queue-keep, now-part}
-use Rattle.walk.proofs.Copy.{sound-closed}
-use Rattle.walk.proofs.Enter.{Placed, placed-passed, placed-stopped, compare-placed, part-at, single-bytes, pair-bytes}
+use Rattle.waiting.proofs.Texts.{positive, Two, text-app, text-abs, Inner, text-inner}
+use Rattle.waiting.proofs.Queues.{queue-empty, queue-base, Last, queue-last, queue-deeper, queue-keep, now-part}
+use Rattle.copies.proofs.Copy.{sound-closed}
+use Rattle.copies.proofs.Enter.{Placed, placed-passed, placed-stopped, compare-placed, part-at, single-bytes, pair-bytes}
 
 -- ---- What follows.
 module _ (at : ℕ) (R : Frame) (W : List Waiting) (B K X : Term) (p : Progress) {m : ℕ} (i : m ≡ at + 1 + size K) where

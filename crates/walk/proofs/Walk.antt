@@ -28,16 +28,19 @@ use Rattle.indices.specs.Passes.{Measured, Standing as Measurable}
 use Rattle.indices.proofs.Walk.{scope-size}
 use Rattle.verdict.specs.Bounds.{waitingSize, waitingScope, stateSize, stateScope, stateFits}
 use Rattle.verdict.specs.Verdict.{Waiting, terms, liftWaiting, number, placeOf, something-waits, state-outgrown, Progress, Run, passed, stopped, andThen, turned, compareNext, tested, atTau, atVar, copiedRule, copiedFrom, enough, ownFrom}
-use Rattle.walk.specs.State.{Part, Sound, queueLength, slotOf, Queue, queue-none, Reached, Says, says-passed, says-stopped, says-never, copiedNow, Known, exact, fitting, CopyAt, Room, within, Sized, OwnAt}
-use Rattle.walk.specs.Contracts.{Fitted, Stated, Copies, afterInner, OwnStated, OwnReady, Continues, pass-stops, pass-goes, Passes, Ends, Checks}
-use Rattle.walk.specs.declared.Walked.{Walked}
-use Rattle.walk.specs.declared.Slot.{Slot}
-use Rattle.walk.specs.declared.Copying.{Copying}
+use Rattle.waiting.specs.Waiting.{Part, queueLength, slotOf, Queue, queue-none, within, Fitted}
+use Rattle.copies.specs.State.{Sound, Reached, Says, says-passed, says-stopped, says-never, copiedNow, Known, exact, fitting, CopyAt, Room}
+use Rattle.walk.specs.State.{Sized, OwnAt}
+use Rattle.copies.specs.Contracts.{Stated, Copies}
+use Rattle.walk.specs.Contracts.{afterInner, OwnStated, OwnReady, Continues, pass-stops, pass-goes, Passes, Ends, Checks}
+use Rattle.copies.specs.declared.Walked.{Walked}
+use Rattle.waiting.specs.declared.Slot.{Slot}
+use Rattle.copies.specs.declared.Copying.{Copying}
 use Rattle.walk.specs.declared.Passing.{Passing}
-use Rattle.walk.proofs.Texts.{positive, text-tau, Variable, text-var, Two, text-app, text-abs, text-in, Inner, text-inner}
-use Rattle.walk.proofs.Queues.{queue-empty, queue-base, Last, queue-last, queue-keep}
-use Rattle.walk.proofs.Runs.{same-tested, copied-step, copied-fits, own-fits, room, reached-turned, tested-true, tested-false}
-use Rattle.walk.proofs.Copy.{sound-closed, sound-short}
+use Rattle.waiting.proofs.Texts.{positive, text-tau, Variable, text-var, Two, text-app, text-abs, text-in, Inner, text-inner}
+use Rattle.waiting.proofs.Queues.{queue-empty, queue-base, Last, queue-last, queue-keep}
+use Rattle.copies.proofs.Runs.{same-tested, copied-step, copied-fits, own-fits, room, reached-turned, tested-true, tested-false}
+use Rattle.copies.proofs.Copy.{sound-closed, sound-short}
 
 -- ---- The rules of the term's own text.
 then-then : (x : Run) (f g : Progress → Run) → andThen (andThen x f) g ≡ andThen x (λ q. andThen (f q) g)

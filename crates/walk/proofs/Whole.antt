@@ -24,10 +24,12 @@ use Rattle.frames.specs.declared.FrameRecord.{FrameRecord}
 use Rattle.indices.proofs.Walk.{scope-size}
 use Rattle.verdict.specs.Verdict.{Ground, not-reached, Progress, Run, passed, stopped, checkTerm, ownFrom}
 use Rattle.verdict.proofs.Never.{always-a-number}
-use Rattle.walk.specs.State.{Sound, sound-empty, queueLength, Queue, queue-none, Reached, Says, says-passed, says-stopped, says-never, Sized, OwnAt}
+use Rattle.copies.specs.State.{Sound, sound-empty, Reached, Says, says-passed, says-stopped, says-never}
+use Rattle.waiting.specs.Waiting.{queueLength, Queue, queue-none}
+use Rattle.walk.specs.State.{Sized, OwnAt}
 use Rattle.walk.specs.Contracts.{OwnStated, Checks, SizedFrom, TermAt, FigureAt, WholeTerm, Walkable, Answers, answer-passed, answer-stopped, WalkAnswer}
-use Rattle.walk.specs.declared.Walked.{Walked}
-use Rattle.walk.specs.declared.Figures.{Figures}
+use Rattle.copies.specs.declared.Walked.{Walked}
+use Rattle.waiting.specs.declared.Figures.{Figures}
 
 -- ---- A term starts at every byte of a term.
 record Part (t : List ℕ) (i : ℕ) : Type 0 where

@@ -1,157 +1,25 @@
 -- The contracts of the walk's functions.
 -- Assumes nothing.
-use Prim.Native.Nat.{ℕ, zero, suc, _+_, _-_, _*_, _≤_, _<_, max}
+use Prim.Native.Nat.{ℕ, suc, _+_, _*_, _≤_, _<_}
 use mathlib.Core.Path.{_≡_}
-use mathlib.Core.Bool.{Bool, true, false}
 use mathlib.Core.List.{List, [], _∷_, map}
 use lib.ListN.{length, getD}
-use Rattle.calculus.specs.Terms.{Term, tau, var, app, abs, size, lift, Closed}
-use Rattle.calculus.specs.Frames.{single, pair, Frame, ε, _▹_, depth}
+use Rattle.calculus.specs.Terms.{Term, tau, var, app, abs, size, Closed}
+use Rattle.calculus.specs.Frames.{single, pair, Frame, _▹_}
 use Rattle.code.specs.Limits.{longestFile, longestTerm, longestState, mostAbstractors}
-use Rattle.code.specs.Code.{Coded, encode}
+use Rattle.code.specs.Code.{encode}
 use Rattle.code.specs.Claims.{Stands}
 use Rattle.code.specs.Scope.{scope}
 use Rattle.fields.specs.Fields.{GroupAt, Groups}
-use Rattle.frames.specs.Stored.{Stored, Agree, EndAt}
+use Rattle.frames.specs.Stored.{Agree}
 use Rattle.frames.specs.declared.FrameRecord.{FrameRecord}
-use Rattle.verdict.specs.Bounds.{waitingSize, waitingScope}
-use Rattle.verdict.specs.Verdict.{Waiting, terms, liftWaiting, Ground, number, placeOf, Progress, Run, passed, stopped, andThen, turned, compareNext, copiedRule, copiedFrom, enough, ownFrom, checkTerm}
-use Rattle.walk.specs.State.{Part, Sound, queueLength, slotOf, Queue, Reached, Says, copiedNow, CopyAt, Room, within, Sized, OwnAt}
-use Rattle.walk.specs.declared.Walked.{Walked}
-use Rattle.walk.specs.declared.Figures.{Figures}
-use Rattle.walk.specs.declared.Slot.{Slot}
-use Rattle.walk.specs.declared.Copying.{Copying}
-use Rattle.walk.specs.declared.Turning.{Turning}
+use Rattle.verdict.specs.Verdict.{Waiting, liftWaiting, Ground, number, placeOf, Progress, Run, passed, stopped, andThen, compareNext, ownFrom, checkTerm}
+use Rattle.waiting.specs.Waiting.{queueLength, within}
+use Rattle.copies.specs.State.{Says, Room}
+use Rattle.walk.specs.State.{OwnAt}
+use Rattle.copies.specs.declared.Walked.{Walked}
+use Rattle.waiting.specs.declared.Figures.{Figures}
 use Rattle.walk.specs.declared.Passing.{Passing}
-
--- WAITING APPLICATORS
-pub record SmallSlot (v : Slot) : Type 0 where
-  pub size-fits : v .size < 65536
-  pub scope-fits : v .scope < 65536
-  pub depth-fits : v .depth < 65536
-  pub place-fits : v .place < 65536
-  pub end-fits : v .end < 65536
-  pub shift-fits : v .shift < 65536
-  pub cut-fits : v .cut < 65536
-
--- The j-th is v now, and those before it are as they were.
-pub record Noted (q q′ : List ℕ) (j : ℕ) (v : Slot) : Type 0 where
-  pub below : Agree q q′ 0 (7 * j)
-  pub same-length : length q′ ≡ length q
-  pub slot : slotOf q′ j ≡ v
-
--- The size and the scope of what waits.
-pub record Figured (q : List ℕ) (base top : ℕ) (r : Figures) : Type 0 where
-  pub size-bound : r .size < 65536
-  pub scope-bound : r .scope < 65536
-  pub size-is : (s : List ℕ) (d limit : ℕ) (W : List Waiting) → Queue s q d limit base top W → r .size ≡ waitingSize (terms W)
-  pub scope-is : (s : List ℕ) (d limit : ℕ) (W : List Waiting) → Queue s q d limit base top W → r .scope ≡ waitingScope (terms W)
-
--- The test for 11.
-pub record Fitted (ws ys : List ℕ) (base top ytop end depth size scope : ℕ) (r : Bool) : Type 0 where
-  pub is : (s s′ : List ℕ) (d d′ limit limit′ : ℕ) (W Q : List Waiting) → Queue s ws d limit base top W → Queue s′ ys d′ limit′ 0 ytop Q
-      → r ≡ within (end + (waitingSize (terms W) + (waitingSize (terms Q) + size))) (depth + max (waitingScope (terms W)) (max (waitingScope (terms Q)) scope))
-
--- BYTES
--- n bytes of s from p stand in w′ from `to`; below, w′ is w.
-pub record Moved (s w w′ : List ℕ) (p n to : ℕ) : Type 0 where
-  pub same-length : length w′ ≡ length w
-  pub below : Agree w w′ 0 to
-  pub same : (i : ℕ) → i < n → getD w′ (to + i) 0 ≡ getD s (p + i) 0
-
--- A mark and then L were written from `to` up to e.
-pub record Written (mark : ℕ) (w w′ : List ℕ) (to e : ℕ) (L : Term) : Type 0 where
-  pub work : length w′ ≡ longestState
-  pub below : Agree w w′ 0 to
-  pub marked : getD w′ to 0 ≡ mark
-  pub stands : Stands w′ (suc to) e L
-
--- A term of s that can be written at `to`, lifted by n above c and then by m.
-pub record Writable (s w : List ℕ) (p e n c m to : ℕ) : Type 0 where
-  pub work : length w ≡ longestState
-  pub raw : Term
-  pub stands : Stands s p e raw
-  pub short : size raw ≤ longestTerm
-  pub cut : c + scope raw < longestTerm
-  pub first : Coded (lift n c raw)
-  pub second : Coded (lift m 0 (lift n c raw))
-  pub room : to + suc (size raw) ≤ longestState
-
-pub record Puts (mark : ℕ) (s w w′ : List ℕ) (p e n c m to r : ℕ) : Type 0 where
-  pub all : (K : Term) → Stands s p e K → Written mark w w′ to r (lift m 0 (lift n c K))
-
--- The last of what waits can be written at `to`, and was.
-pub record TopAsked (s q w : List ℕ) (d limit base top to : ℕ) : Type 0 where
-  pub work : length w ≡ longestState
-  pub last : Waiting
-  pub others : List Waiting
-  pub queue : Queue s q d limit base top (last ∷ others)
-  pub room : to + suc (size (last .term)) ≤ longestState
-  pub shallow : d + scope (last .term) ≤ mostAbstractors
-  pub few : top ≤ 4096
-
-pub record TopPut (s q w w′ : List ℕ) (d limit base top to r : ℕ) : Type 0 where
-  pub all : (x : Waiting) (W : List Waiting) → Queue s q d limit base top (x ∷ W) → Written 0xfe w w′ to r (x .term)
-
--- COPIED TEXT
-abbrev pub stopping : ℕ → ℕ → Copying → FrameRecord → Turning
-stopping number place s f = record { going = false; out = record { number = number; place = place; comparisons = s .comparisons; next = s .next }; state = s; frame = f }
-
-abbrev pub goingOn : Copying → FrameRecord → Turning
-goingOn s f = record { going = true; out = record { number = 0; place = 0; comparisons = s .comparisons; next = s .next }; state = s; frame = f }
-
--- A state within the limits, or not yet tested.
-pub record Ready (file t w ws ys : List ℕ) (base : ℕ) (s : Copying) (f : FrameRecord) : Type 0 where
-  pub frame : Frame
-  pub ww : List Waiting
-  pub yy : List Waiting
-  pub body : Term
-  pub progress : Progress
-  pub at : CopyAt file t w ws ys base s f frame ww yy body progress
-  pub room : Room (f .len) (f .end) ww yy body
-
--- A state within the limits at an abstractor whose U ends at m.
-pub record AbsReady (file t w ws ys : List ℕ) (base : ℕ) (s : Copying) (f : FrameRecord) (m : ℕ) : Type 0 where
-  pub ready : Ready file t w ws ys base s f
-  pub high : 0xfe ≤ getD w (s .from) 0
-  pub no-app : getD w (s .from) 0 ≡ 0xfe → ⊥
-  pub ends : EndAt w (s .from + 1) m
-
-pub record Stated (file t w ws ys : List ℕ) (base : ℕ) (s : Copying) (f : FrameRecord) : Type 0 where
-  pub frame : Frame
-  pub ww : List Waiting
-  pub yy : List Waiting
-  pub body : Term
-  pub progress : Progress
-  pub at : CopyAt file t w ws ys base s f frame ww yy body progress
-
--- A turn ends the run x, or goes on from a state whose run it is, with fewer turns than m.
-pub data Turned (file t w ws ys : List ℕ) (base place : ℕ) (r : Turning) (m : ℕ) : Run → Type 0 where
-  turn-stops : {x : Run} → r .going ≡ false → Says file (r .out) x → Turned file t w ws ys base place r m x
-  turn-goes : {x : Run} {R : Frame} {W Q : List Waiting} {B : Term} {p : Progress} → r .going ≡ true → CopyAt file t w ws ys base (r .state) (r .frame) R W Q B p → enough R B < m
-      → x ≡ copiedNow place R W (terms Q) B p → Turned file t w ws ys base place r m x
-
-pub record Ruled (file t w w′ ws ys ys′ : List ℕ) (base place : ℕ) (s : Copying) (f : FrameRecord) (r : Turning) : Type 0 where
-  pub work : length w′ ≡ longestState
-  pub below : Agree w w′ 0 (f .end)
-  pub grown : f .end ≤ r .frame .end
-  pub ylong : length ys′ ≡ queueLength
-  pub all : (R : Frame) (W Q : List Waiting) (B : Term) (p : Progress) → CopyAt file t w ws ys base s f R W Q B p → Room (f .len) (f .end) W Q B
-      → Turned file t w′ ws ys′ base place r (enough R B) (copiedRule (copiedNow place) place R W (terms Q) B (turned 1 p))
-
-pub record Turns (file t w w′ ws ys ys′ : List ℕ) (base place : ℕ) (s : Copying) (f : FrameRecord) (r : Turning) : Type 0 where
-  pub work : length w′ ≡ longestState
-  pub below : Agree w w′ 0 (f .end)
-  pub grown : f .end ≤ r .frame .end
-  pub ylong : length ys′ ≡ queueLength
-  pub all : (R : Frame) (W Q : List Waiting) (B : Term) (p : Progress) → CopyAt file t w ws ys base s f R W Q B p
-      → Turned file t w′ ws ys′ base place r (enough R B) (copiedNow place R W (terms Q) B p)
-
-pub record Copies (file t w w′ ws ys ys′ : List ℕ) (base place : ℕ) (s : Copying) (f : FrameRecord) (r : Walked) : Type 0 where
-  pub work : length w′ ≡ longestState
-  pub below : Agree w w′ 0 (f .end)
-  pub ylong : length ys′ ≡ queueLength
-  pub all : (R : Frame) (W Q : List Waiting) (B : Term) (p : Progress) → CopyAt file t w ws ys base s f R W Q B p → Says file r (copiedNow place R W (terms Q) B p)
 
 -- THE TERM'S OWN TEXT
 -- What follows the inside of an applicator or an abstractor, once that has passed.

@@ -38,7 +38,7 @@ wide-requires-2 c κs = search needs
 
 -- the entry ends at e, however control came there
 ends : (c : lts.Joined1 (wide-reads.Asked, wide-reads.Learnt, parts-of-reads.Asked, parts-of-reads.Learnt) reads.Pre reads.Post)
-    → Ends (c .before .before .before .args .t3 .starts) (c .before .before .before .args .t3 .len) (c .before .before .before .args .t3 .end) (c .before .before .before .args .k) (c .if1 .e)
+    → Ends (c .before .before .before .args .starts .now) (c .before .before .before .args .len) (c .before .before .before .args .end) (c .before .before .before .args .k) (c .if1 .e)
 ends c = ⊎-elim (λ w. ends-inner (omega arith) (w .3 ∙ w .2 .ensures)) (λ w. ends-last (omega arith) (w .1)) (c .if1 .came)
 
 parts-of-requires : tie.Need-parts-of-requires

@@ -9,7 +9,7 @@ sub-result : tie.Need-sub-result
 sub-result c = search needs
 
 returns : tie.Need-returns
-returns c = advanced-terminal _ (c .before .pre) (c .if1 .taken)
+returns c = advanced-terminal _ (c .before .before .pre) (c .if1 .taken)
 
 sub-d : tie.Need-sub-d
 sub-d c = search needs
@@ -17,8 +17,8 @@ sub-d c = search needs
 mul-d : tie.Need-mul-d
 mul-d c = search needs
 
-element-copy-out-d : tie.Need-element-copy-out-d
-element-copy-out-d c = search needs
+slice-read-d : tie.Need-slice-read-d
+slice-read-d c = search needs
 
 body-scope-requires : tie.Need-body-scope-requires
 body-scope-requires c κs = search needs
@@ -29,20 +29,23 @@ sub-stack c = search needs
 mul-stack : tie.Need-mul-stack
 mul-stack c = search needs
 
-element-write-stack : tie.Need-element-write-stack
-element-write-stack c = search needs
+slice-write-stack : tie.Need-slice-write-stack
+slice-write-stack c = search needs
 
 mul-stack-2 : tie.Need-mul-stack-2
 mul-stack-2 c = search needs
 
-element-write-stack-2 : tie.Need-element-write-stack-2
-element-write-stack-2 c = search needs
+slice-write-stack-2 : tie.Need-slice-write-stack-2
+slice-write-stack-2 c = search needs
 
 add-result : tie.Need-add-result
 add-result c = search needs
 
+same-length : tie.Need-same-length
+same-length c = search needs
+
 returns-2 : tie.Need-returns-2
-returns-2 c = advanced-operator _ _ (c .before .before .before .pre) (c .before .before .if1 .left) (c .body-scope .ensures)
+returns-2 c = advanced-operator _ _ (c .before .before .before .before .pre) (c .before .before .if1 .left) (c .body-scope .ensures)
 
 pub advance-spec : {M : Type 1} → statement M
 advance-spec =
@@ -52,12 +55,13 @@ advance-spec =
     returns
     sub-d
     mul-d
-    element-copy-out-d
+    slice-read-d
     body-scope-requires
     sub-stack
     mul-stack
-    element-write-stack
+    slice-write-stack
     mul-stack-2
-    element-write-stack-2
+    slice-write-stack-2
     add-result
+    same-length
     returns-2)

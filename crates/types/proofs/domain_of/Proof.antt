@@ -25,10 +25,10 @@ sub-entry-at-by : tie.Need-sub-entry-at-by
 sub-entry-at-by c = search needs
 
 entry-at-by-requires : tie.Need-entry-at-by-requires
-entry-at-by-requires c κs = let o = some-outside (c .before .before .before .before .before .pre) (c .before .before .find .ensures) (omega arith) in (c .before .before .before .before .table .ensures, o .0, o .1, o .2)
+entry-at-by-requires c κs = let o = some-outside (c .before .before .before .before .before .before .before .pre) (c .before .before .before .before .find .ensures) (omega arith) in (c .before .before .before .before .before .before .table .ensures, o .0, o .1, o .2)
 
 returns-2 : tie.Need-returns-2
-returns-2 c = outside (c .before .before .before .before .before .before .pre) (c .before .before .before .find .ensures) (omega arith) (c .entry-at-by .ensures)
+returns-2 c = outside (c .before .before .before .before .before .before .before .before .pre) (c .before .before .before .before .before .find .ensures) (omega arith) (c .entry-at-by .ensures)
 
 pub domain-of-spec : {M : Type 1} → statement M
 domain-of-spec =

@@ -3,8 +3,8 @@
 use native.Mathlib.Omega.{arith}
 use Prim.Native.Nat.{_-_, _+_}
 use borrow.Author.Needs.{needs}
-use Rattle.walk.proofs.Texts.{text-in}
-use Rattle.walk.proofs.Loop.{is-false, is-true}
+use Rattle.waiting.proofs.Texts.{text-in}
+use Rattle.copies.proofs.Loop.{is-false, is-true}
 use Rattle.walk.proofs.Walk.{at-bound, base-bound, checks-outgrown, known-size, inside-stated, inside-stops, pass-ready, pass-stop-checks, next-stated, rest-checks, Goes}
 use Prim.Native.Nat.{ℕ, _<_}
 use borrow.Fn.Kinds.{In}
@@ -15,11 +15,11 @@ use Rattle.walk.proofs.+inside+term.Lts-inside as inside-lts
 use Rattle.walk.proofs.term.Reads as term
 use Rattle.walk.proofs.term.Kinds as term-kinds
 use Rattle.walk.proofs.+inside+term.Lts-term as term-lts
-use Rattle.walk.proofs.fits.Reads as fits-reads
+use Rattle.waiting.proofs.fits.Reads as fits-reads
 use Rattle.walk.proofs.halt.Reads as halt-reads
 use Rattle.walk.proofs.last.Reads as last-reads
 use Rattle.walk.proofs.pass.Reads as pass-reads
-use Rattle.walk.proofs.wide16.Reads as wide16-reads
+use Rattle.waiting.proofs.wide16.Reads as wide16-reads
 use Rattle.walk.proofs.+inside+term.{statement}
 use Rattle.walk.proofs.+inside+term.Tie.{close}
 

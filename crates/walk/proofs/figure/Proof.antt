@@ -2,15 +2,15 @@
 -- Assumes nothing.
 use native.Mathlib.Omega.{arith}
 use mathlib.Core.Path.{refl}
-use Rattle.walk.proofs.Texts.{text-in}
+use Rattle.waiting.proofs.Texts.{text-in}
 use Rattle.walk.proofs.Whole.{leaf-figure, node-bounds, app-figure, abs-figure}
 use borrow.Author.Needs.{needs}
 use Rattle.walk.proofs.figure.Statement.{statement}
 use Rattle.walk.proofs.figure.Tie as tie
 use Rattle.walk.proofs.figure.Reads as reads
 use Rattle.walk.proofs.figure.Lts as lts
-use Rattle.walk.proofs.larger.Reads as larger-reads
-use Rattle.walk.proofs.wide16.Reads as wide16-reads
+use Rattle.waiting.proofs.larger.Reads as larger-reads
+use Rattle.waiting.proofs.wide16.Reads as wide16-reads
 
 shared-slice-read-b : tie.Need-shared-slice-read-b
 shared-slice-read-b c = text-in (c .before .before .pre .1 .stands)

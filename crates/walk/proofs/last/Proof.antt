@@ -1,17 +1,17 @@
 -- `walk::last` meets its contract.
 -- Assumes nothing.
 use native.Mathlib.Omega.{arith}
-use Rattle.walk.proofs.Texts.{text-in}
-use Rattle.walk.proofs.Loop.{is-false, is-true}
+use Rattle.waiting.proofs.Texts.{text-in}
+use Rattle.copies.proofs.Loop.{is-false, is-true}
 use Rattle.walk.proofs.Walk.{at-bound, base-bound, own-ready, checks-outgrown, tau-passes, tau-waits, ends-checks, one-symbol}
 use borrow.Author.Needs.{needs}
 use Rattle.walk.proofs.last.Statement.{statement}
 use Rattle.walk.proofs.last.Tie as tie
 use Rattle.walk.proofs.last.Reads as reads
 use Rattle.walk.proofs.last.Lts as lts
-use Rattle.walk.proofs.fits.Reads as fits-reads
+use Rattle.waiting.proofs.fits.Reads as fits-reads
 use Rattle.walk.proofs.halt.Reads as halt-reads
-use Rattle.walk.proofs.slot_at.Reads as slot-at-reads
+use Rattle.waiting.proofs.slot_at.Reads as slot-at-reads
 use Rattle.walk.proofs.variable.Reads as variable-reads
 
 fits-requires : tie.Need-fits-requires

@@ -1,9 +1,9 @@
 -- `walk::pass` meets its contract.
 -- Assumes nothing.
-use Rattle.walk.proofs.Texts.{text-in}
+use Rattle.waiting.proofs.Texts.{text-in}
 use native.Mathlib.Omega.{arith}
 use mathlib.Core.Path.{_≡_, refl, _∙_}
-use Rattle.walk.proofs.Enter.{reached-inside}
+use Rattle.copies.proofs.Enter.{reached-inside}
 use Rattle.walk.proofs.Own.{own-bound, own-base, app-bounds, app-small, abs-bounds, fewer-entries, domain-writable, alone-fits, wait-above, wait-asked, wait-domain, wait-past, comparing, app-ruled, alone-ruled, stop-ruled, pair-ruled, inner-end, inner-bound}
 use borrow.Author.Needs.{needs}
 use Rattle.walk.proofs.pass.Statement.{statement}
@@ -13,7 +13,7 @@ use Rattle.walk.proofs.pass.Lts as lts
 use Rattle.walk.proofs.pass_alone.Reads as pass-alone-reads
 use Rattle.walk.proofs.pass_app.Reads as pass-app-reads
 use Rattle.walk.proofs.pass_pair.Reads as pass-pair-reads
-use Rattle.walk.proofs.wide16.Reads as wide16-reads
+use Rattle.waiting.proofs.wide16.Reads as wide16-reads
 
 add-m : tie.Need-add-m
 add-m c = omega (arith, inner-bound (c .before .before .pre .0 .here) (c .before .before .pre .2) (c .before .before .pre .1) .0)

@@ -2,14 +2,14 @@
 -- Assumes nothing.
 use native.Mathlib.Omega.{arith}
 use mathlib.Core.Path.{_≡_, refl, _∙_}
-use Rattle.walk.proofs.Enter.{reached-inside}
+use Rattle.copies.proofs.Enter.{reached-inside}
 use Rattle.walk.proofs.Own.{own-bound, own-base, app-bounds, app-small, abs-bounds, fewer-entries, domain-writable, alone-fits, wait-above, wait-asked, wait-domain, wait-past, comparing, app-ruled, alone-ruled, stop-ruled, pair-ruled, inner-end, inner-bound}
 use Rattle.walk.proofs.pass_alone.Statement.{statement}
 use Rattle.walk.proofs.pass_alone.Tie as tie
 use Rattle.walk.proofs.pass_alone.Reads as reads
 use Rattle.walk.proofs.pass_alone.Lts as lts
 use Rattle.frames.proofs.push.Reads as push-reads
-use Rattle.walk.proofs.put_own.Reads as put-own-reads
+use Rattle.waiting.proofs.put_own.Reads as put-own-reads
 
 add-put-own : tie.Need-add-put-own
 add-put-own c = omega (arith, own-bound (c .before .before .before .pre .1) (c .before .before .before .pre .0 .here))

@@ -2,17 +2,17 @@
 -- Assumes nothing.
 use native.Mathlib.Omega.{arith}
 use mathlib.Core.Path.{_≡_, refl, _∙_}
-use Rattle.walk.proofs.Enter.{reached-inside}
+use Rattle.copies.proofs.Enter.{reached-inside}
 use Rattle.walk.proofs.Own.{own-bound, own-base, app-bounds, app-small, abs-bounds, fewer-entries, domain-writable, alone-fits, wait-above, wait-asked, wait-domain, wait-past, comparing, app-ruled, alone-ruled, stop-ruled, pair-ruled, inner-end, inner-bound}
 use borrow.Author.Needs.{needs}
 use Rattle.walk.proofs.pass_app.Statement.{statement}
 use Rattle.walk.proofs.pass_app.Tie as tie
 use Rattle.walk.proofs.pass_app.Reads as reads
 use Rattle.walk.proofs.pass_app.Lts as lts
-use Rattle.walk.proofs.figures_of.Reads as figures-of-reads
-use Rattle.walk.proofs.larger.Reads as larger-reads
-use Rattle.walk.proofs.note.Reads as note-reads
-use Rattle.walk.proofs.wide16.Reads as wide16-reads
+use Rattle.waiting.proofs.figures_of.Reads as figures-of-reads
+use Rattle.waiting.proofs.larger.Reads as larger-reads
+use Rattle.waiting.proofs.note.Reads as note-reads
+use Rattle.waiting.proofs.wide16.Reads as wide16-reads
 
 figures-of-requires : tie.Need-figures-of-requires
 figures-of-requires c κs = (own-base (c .before .before .before .pre .1) (c .before .before .before .pre .0 .here), omega (arith, own-bound (c .before .before .before .pre .1) (c .before .before .before .pre .0 .here), c .before .before .before .pre .0 .here .tops))

@@ -2,16 +2,16 @@
 -- Assumes nothing.
 use native.Mathlib.Omega.{arith}
 use mathlib.Core.Path.{_≡_, refl, _∙_}
-use Rattle.walk.proofs.Enter.{reached-inside}
+use Rattle.copies.proofs.Enter.{reached-inside}
 use Rattle.walk.proofs.Own.{own-bound, own-base, app-bounds, app-small, abs-bounds, fewer-entries, domain-writable, alone-fits, wait-above, wait-asked, wait-domain, wait-past, comparing, app-ruled, alone-ruled, stop-ruled, pair-ruled, inner-end, inner-bound}
 use Rattle.walk.proofs.pass_pair.Statement.{statement}
 use Rattle.walk.proofs.pass_pair.Tie as tie
 use Rattle.walk.proofs.pass_pair.Reads as reads
 use Rattle.walk.proofs.pass_pair.Lts as lts
 use Rattle.frames.proofs.push.Reads as push-reads
-use Rattle.walk.proofs.put_own.Reads as put-own-reads
-use Rattle.walk.proofs.put_wait.Reads as put-wait-reads
-use Rattle.walk.proofs.slot_at.Reads as slot-at-reads
+use Rattle.waiting.proofs.put_own.Reads as put-own-reads
+use Rattle.waiting.proofs.put_wait.Reads as put-wait-reads
+use Rattle.waiting.proofs.slot_at.Reads as slot-at-reads
 
 put-wait-requires : tie.Need-put-wait-requires
 put-wait-requires c κs = (wait-asked (c .before .before .before .pre .1) (c .before .before .before .pre .0 .here) (c .before .before .before .pre .2) (c .before .before .before .pre .0 .room) (c .before .before .before .pre .4), wait-above (c .before .before .before .pre .1) (c .before .before .before .pre .0 .here) (c .before .before .before .pre .2) (c .before .before .before .pre .0 .room) (c .before .before .before .pre .4))

@@ -1,7 +1,7 @@
 -- `walk::variable` meets its contract.
 -- Assumes nothing.
 use native.Mathlib.Omega.{arith}
-use Rattle.walk.proofs.Texts.{text-in}
+use Rattle.waiting.proofs.Texts.{text-in}
 use Rattle.walk.proofs.Walk.{index-bounds, measurable, var-stated, var-ends}
 use borrow.Author.Needs.{needs}
 use Rattle.walk.proofs.variable.Statement.{statement}
@@ -10,8 +10,8 @@ use Rattle.walk.proofs.variable.Reads as reads
 use Rattle.walk.proofs.variable.Lts as lts
 use Rattle.frames.proofs.entry_at_by.Reads as entry-at-by-reads
 use Rattle.indices.proofs.measure.Reads as measure-reads
-use Rattle.walk.proofs.copied.Reads as copied-reads
-use Rattle.walk.proofs.wide.Reads as wide-reads
+use Rattle.copies.proofs.copied.Reads as copied-reads
+use Rattle.copies.proofs.wide.Reads as wide-reads
 
 shared-slice-read-wide : tie.Need-shared-slice-read-wide
 shared-slice-read-wide c = text-in (c .before .before .before .pre .1 .here .stands)
@@ -20,16 +20,16 @@ wide-requires : tie.Need-wide-requires
 wide-requires c κs = search needs
 
 entry-at-by-requires : tie.Need-entry-at-by-requires
-entry-at-by-requires c κs = let b = index-bounds (c .before .before .before .before .before .pre .2) (c .before .before .before .before .before .pre .3) (c .before .wide .ensures) (c .before .before .before .before .before .pre .1 .here) in (c .before .before .before .before .before .pre .0, record { frame = c .before .before .before .before .before .pre .1 .frame; stored = c .before .before .before .before .before .pre .1 .here .stored }, b .0, b .1)
+entry-at-by-requires c κs = let g = c .before .before .before .before .before .before .before .pre in let b = index-bounds (g .2) (g .3) (c .before .before .before .wide .ensures) (g .1 .here) in (g .0, record { frame = g .1 .frame; stored = g .1 .here .stored }, b .0, b .1)
 
 measure-requires : tie.Need-measure-requires
-measure-requires c κs = measurable (c .before .before .before .before .before .before .before .before .pre .2) (c .before .before .before .before .before .before .before .before .pre .3) (c .before .before .before .before .wide .ensures) (c .before .before .before .before .before .before .before .before .pre .1 .here) (c .before .before .entry-at-by .ensures)
+measure-requires c κs = let g = c .before .before .before .before .before .before .before .before .before .before .pre in measurable (g .2) (g .3) (c .before .before .before .before .before .before .wide .ensures) (g .1 .here) (c .before .before .entry-at-by .ensures)
 
 copied-requires : tie.Need-copied-requires
-copied-requires c κs = (c .before .before .before .before .before .before .before .before .before .before .before .pre .0, var-stated (c .before .before .before .before .before .before .before .before .before .before .before .pre .2) (c .before .before .before .before .before .before .before .before .before .before .before .pre .3) (c .before .before .before .before .before .before .before .wide .ensures) (c .before .before .before .before .before .before .before .before .before .before .before .pre .1) (c .before .before .before .before .before .entry-at-by .ensures) (c .before .before .measure .ensures))
+copied-requires c κs = let g = c .before .before .before .before .before .before .before .before .before .before .before .before .before .pre in (g .0, var-stated (g .2) (g .3) (c .before .before .before .before .before .before .before .before .before .wide .ensures) (g .1) (c .before .before .before .before .before .entry-at-by .ensures) (c .before .before .measure .ensures))
 
 returns : tie.Need-returns
-returns c = var-ends (c .before .before .before .before .before .before .before .before .before .before .before .before .pre .2) (c .before .before .before .before .before .before .before .before .before .before .before .before .pre .3) (c .before .before .before .before .before .before .before .before .wide .ensures) (c .before .before .before .before .before .before .entry-at-by .ensures) (c .before .before .before .measure .ensures) (c .copied .ensures)
+returns c = let g = c .before .before .before .before .before .before .before .before .before .before .before .before .before .before .pre in var-ends (g .2) (g .3) (c .before .before .before .before .before .before .before .before .before .before .wide .ensures) (c .before .before .before .before .before .before .entry-at-by .ensures) (c .before .before .before .measure .ensures) (c .copied .ensures)
 
 pub variable-spec : {M : Type 1} → statement M
 variable-spec =

@@ -1,0 +1,37 @@
+-- `copies::abs_alone` meets its contract.
+-- Assumes nothing.
+use native.Mathlib.Omega.{arith}
+use mathlib.Core.Path.{_≡_, refl, _∙_}
+use Rattle.frames.proofs.Entries.{agree-refl}
+use Rattle.copies.proofs.Enter.{abs-bounds, fewer-entries, domain-writable, alone-fits, yet-asked, yet-domain, wait-asked, wait-above, wait-domain, comparing}
+use Rattle.copies.proofs.Loop.{alone-ruled, yet-ruled, wait-ruled-stop, wait-ruled-go}
+use borrow.Author.Needs.{needs}
+use Rattle.copies.proofs.abs_alone.Statement.{statement}
+use Rattle.copies.proofs.abs_alone.Tie as tie
+use Rattle.copies.proofs.abs_alone.Reads as reads
+use Rattle.copies.proofs.abs_alone.Lts as lts
+use Rattle.frames.proofs.push.Reads as push-reads
+use Rattle.copies.proofs.go.Reads as go-reads
+use Rattle.waiting.proofs.put_seen.Reads as put-seen-reads
+
+add-put-seen : tie.Need-add-put-seen
+add-put-seen c = search needs
+
+put-seen-requires : tie.Need-put-seen-requires
+put-seen-requires c κs = let z = c .before .before .before .before .pre .0 .ready .at in let b = abs-bounds (c .before .before .before .before .pre .0 .ready .at) (c .before .before .before .before .pre .0 .ready .room) (c .before .before .before .before .pre .0 .high) (c .before .before .before .before .pre .0 .no-app) (c .before .before .before .before .pre .0 .ends) in (omega (arith, b .1, b .2), omega (arith, z .cut-bound, z .stored .few), domain-writable (c .before .before .before .before .pre .0 .ready .at) (c .before .before .before .before .pre .0 .ready .room) (c .before .before .before .before .pre .0 .high) (c .before .before .before .before .pre .0 .no-app) (c .before .before .before .before .pre .0 .ends) (z .stored .work) agree-refl (alone-fits (c .before .before .before .before .pre .0 .ready .at) (c .before .before .before .before .pre .0 .ready .room) (c .before .before .before .before .pre .0 .high) (c .before .before .before .before .pre .0 .no-app)))
+
+push-requires : tie.Need-push-requires
+push-requires c κs = (fewer-entries (c .before .before .before .before .before .pre .0 .ready .at) (c .before .before .before .before .before .pre .0 .ready .room) (c .before .before .before .before .before .pre .0 .high) (c .before .before .before .before .before .pre .0 .no-app), c .before .before .before .before .before .pre .0 .ready .at .stored .inside)
+
+add-t16 : tie.Need-add-t16
+add-t16 c = search needs
+
+go-requires : tie.Need-go-requires
+go-requires c κs = search needs
+
+returns : tie.Need-returns
+returns c = rw (c .go .ensures, c .before .before .push .ensures) (alone-ruled (c .before .before .before .before .before .before .before .before .pre .0) _ (c .before .before .before .before .before .before .before .before .pre .1) (c .before .before .before .before .before .before .before .before .pre .2) (c .before .before .before .put-seen .ensures))
+
+pub abs-alone-spec : {M : Type 1} → statement M
+abs-alone-spec =
+    tie.close (tie.spec add-put-seen put-seen-requires push-requires add-t16 go-requires returns)

@@ -1,0 +1,72 @@
+-- `copies::settle` meets its contract.
+-- Assumes nothing.
+use native.Mathlib.Omega.{arith}
+use borrow.Author.Needs.{needs}
+use Prim.Native.Nat.{_≤_}
+use Rattle.code.proofs.Parts.{stands-start}
+use Rattle.waiting.proofs.Queues.{queue-base}
+use Rattle.copies.proofs.Copy.{in-text}
+use Rattle.copies.proofs.Loop.{is-false, is-true, ready, enoughIn, Going, going-start, now-stated, settles-outgrown, settles-abs, settles-done, settling-on, settling-fewer}
+use Rattle.copies.proofs.settle.Statement.{statement}
+use Rattle.copies.proofs.settle.Tie as tie
+
+abbrev Inv-loop : tie.InvT-loop
+Inv-loop file tb t work ws ys₀ base place f z₀ ys z = Going file t work work ws ys₀ ys base place z₀ f z f × (enoughIn work f z ≤ enoughIn work f z₀)
+
+abbrev μ-loop : tie.MeasureT-loop
+μ-loop file tb t work ws ys₀ base place f z₀ ys z = enoughIn work f z
+
+loop-holds : tie.Need-loop-holds Inv-loop μ-loop
+loop-holds c = (going-start _ (c .before .before .pre .1), omega arith)
+
+sub-fits : tie.Need-sub-fits Inv-loop μ-loop
+sub-fits c = let z = now-stated (c .before .before .loop .inv .0) .at in omega (arith, stands-start (z .stands))
+
+fits-requires : tie.Need-fits-requires Inv-loop μ-loop
+fits-requires c κs = let z = now-stated (c .before .before .loop .inv .0) .at in (queue-base (z .waits), z .tops, z .ytops, omega (arith, z .stored .inside), omega (arith, z .stored .few), omega (arith, z .inside, z .stored .inside), omega (arith, z .known-bound))
+
+finish-requires : tie.Need-finish-requires Inv-loop μ-loop
+finish-requires c κs = search needs
+
+returns : tie.Need-returns Inv-loop μ-loop
+returns c = rw (c .finish .ensures) (settles-outgrown (c .before .before .before .before .before .loop .inv .0) (c .before .before .before .before .before .loop .inv .1) (c .before .before .fits2 .ensures) (is-false _ (c .before .if1 .taken)))
+
+element-copy-out-if2 : tie.Need-element-copy-out-if2 Inv-loop μ-loop
+element-copy-out-if2 c = in-text (now-stated (c .before .before .before .before .loop .inv .0) .at)
+
+on-requires : tie.Need-on-requires Inv-loop μ-loop
+on-requires c κs = search needs
+
+returns-2 : tie.Need-returns-2 Inv-loop μ-loop
+returns-2 c = rw (c .on .ensures) (settles-abs (c .before .before .before .before .before .before .before .loop .inv .0) (c .before .before .before .before .before .before .before .loop .inv .1) (c .before .before .before .before .fits2 .ensures) (is-true _ (c .before .before .before .if1 .left)) (c .before .if2 .taken))
+
+near-turn-requires : tie.Need-near-turn-requires Inv-loop μ-loop
+near-turn-requires c κs = (c .before .before .before .before .before .before .before .before .before .before .before .before .pre .0, ready (c .before .before .before .before .before .before .fits2 .ensures) (is-true _ (c .before .before .before .before .before .if1 .left)) (now-stated (c .before .before .before .before .before .before .before .before .before .loop .inv .0)), c .before .before .before .if2 .left)
+
+returns-3 : tie.Need-returns-3 Inv-loop μ-loop
+returns-3 c = settles-done (c .before .before .before .before .before .before .before .before .before .before .before .before .loop .inv .0) (c .before .before .before .before .before .before .before .before .before .before .before .before .loop .inv .1) (c .before .before .before .before .before .before .before .before .before .fits2 .ensures) (is-true _ (c .before .before .before .before .before .before .before .before .if1 .left)) (c .before .before .near-turn .ensures) (is-false _ (c .if3 .taken))
+
+loop-less : tie.Need-loop-less Inv-loop μ-loop
+loop-less c = settling-fewer (c .before .before .before .before .before .before .before .before .before .before .before .before .before .loop .inv .0) (c .before .before .before .before .before .before .before .before .before .before .before .before .before .loop .inv .1) (c .before .before .before .before .before .before .before .before .before .before .fits2 .ensures) (is-true _ (c .before .before .before .before .before .before .before .before .before .if1 .left)) (c .before .before .before .near-turn .ensures) (is-true _ (c .before .if3 .left))
+
+loop-again : tie.Need-loop-again Inv-loop μ-loop
+loop-again c = (settling-on (c .before .before .before .before .before .before .before .before .before .before .before .before .before .loop .inv .0) (c .before .before .before .before .before .before .before .before .before .before .before .before .before .loop .inv .1) (c .before .before .before .before .before .before .before .before .before .before .fits2 .ensures) (is-true _ (c .before .before .before .before .before .before .before .before .before .if1 .left)) (c .before .before .before .near-turn .ensures) (is-true _ (c .before .if3 .left)), omega (arith, settling-fewer (c .before .before .before .before .before .before .before .before .before .before .before .before .before .loop .inv .0) (c .before .before .before .before .before .before .before .before .before .before .before .before .before .loop .inv .1) (c .before .before .before .before .before .before .before .before .before .before .fits2 .ensures) (is-true _ (c .before .before .before .before .before .before .before .before .before .if1 .left)) (c .before .before .before .near-turn .ensures) (is-true _ (c .before .if3 .left)), c .before .before .before .before .before .before .before .before .before .before .before .before .before .loop .inv .1))
+
+pub settle-spec : {M : Type 1} → statement M
+settle-spec =
+    tie.close
+    (tie.spec
+    Inv-loop
+    μ-loop
+    loop-holds
+    sub-fits
+    fits-requires
+    finish-requires
+    returns
+    element-copy-out-if2
+    on-requires
+    returns-2
+    near-turn-requires
+    returns-3
+    loop-less
+    loop-again)

@@ -1,0 +1,520 @@
+// The one-pass rules on copied text, with the frame in a work array.
+ghost use mathlib.Core.Path.{_≡_};
+ghost use mathlib.Core.Bool.{true, false};
+ghost use Prim.Native.Nat.{_+_, _-_, _≤_, _<_};
+ghost use lib.ListN.{getD};
+ghost use Rattle.calculus.specs.Terms.{liftIndex};
+ghost use Rattle.code.specs.Code.{Tabled};
+ghost use Rattle.frames.specs.Stored.{recordOf};
+ghost use Rattle.copies.specs.Contracts.{nearStop, nearGo, withFrame, stopping, goingOn, AbsReady, Ready, Stated, Ruled, Settles, Turns, Copies};
+use compare::compare;
+use frames::FrameRecord;
+use frames::entry_at_by;
+use frames::push;
+use indices::measure;
+use waiting::Slot;
+use waiting::end_of;
+use waiting::figures_of;
+use waiting::fits;
+use waiting::larger;
+use waiting::note;
+use waiting::put_seen;
+use waiting::put_wait;
+use waiting::put_yet;
+use waiting::slot_at;
+
+// What a walk answers: 0 or the number and the place of what stops it, the comparisons completed, and where the next group is.
+pub struct Walked {
+    pub number: u32,
+    pub place: usize,
+    pub comparisons: usize,
+    pub next: usize,
+}
+
+// A state of copied text: the tops of W and Y, where B stands, the lift that it is seen through, its scope where it is not
+// known to fit, the next group, and the comparisons completed.
+pub struct Copying {
+    pub top: usize,
+    pub ytop: usize,
+    pub from: usize,
+    pub to: usize,
+    pub shift: usize,
+    pub cut: usize,
+    pub scope: usize,
+    pub next: usize,
+    pub comparisons: usize,
+}
+
+// What a rule that leaves the frame as it is comes to.
+pub struct Near {
+    pub going: bool,
+    pub out: Walked,
+    pub state: Copying,
+}
+
+// What a rule comes to.
+pub struct Turning {
+    pub going: bool,
+    pub out: Walked,
+    pub state: Copying,
+    pub frame: FrameRecord,
+}
+
+pub fn wide(x: u8) -> usize
+    ensures { λ r. ⌜ r ≡ x ⌝ }
+{
+    x as usize
+}
+
+// The index b, seen lifted by n above c.
+fn view(b: u8, n: usize, c: usize) -> usize
+    requires { ⌜ n ≤ 253 ⌝ }
+    ensures { λ r. ⌜ r ≡ liftIndex n c b ⌝ }
+{
+    let k = wide(b);
+    if k <= c {
+        return k;
+    }
+    k + n
+}
+
+// ---- Copied text.
+fn finish(number: u32, place: usize, s: Copying) -> Near
+    ensures { λ r. ⌜ r ≡ nearStop number place s ⌝ }
+{
+    let out = Walked {
+        number,
+        place,
+        comparisons: s.comparisons,
+        next: s.next,
+    };
+    Near {
+        going: false,
+        out,
+        state: s,
+    }
+}
+
+fn on(s: Copying) -> Near
+    ensures { λ r. ⌜ r ≡ nearGo s ⌝ }
+{
+    let out = Walked {
+        number: 0,
+        place: 0,
+        comparisons: s.comparisons,
+        next: s.next,
+    };
+    Near {
+        going: true,
+        out,
+        state: s,
+    }
+}
+
+fn framed(r: Near, f: FrameRecord) -> Turning
+    ensures { λ x. ⌜ x ≡ withFrame r f ⌝ }
+{
+    let out = r.out;
+    let state = r.state;
+    Turning {
+        going: r.going,
+        out,
+        state,
+        frame: f,
+    }
+}
+
+fn stop(number: u32, place: usize, s: Copying, f: FrameRecord) -> Turning
+    ensures { λ r. ⌜ r ≡ stopping number place s f ⌝ }
+{
+    framed(finish(number, place, s), f)
+}
+
+fn go(s: Copying, f: FrameRecord) -> Turning
+    ensures { λ r. ⌜ r ≡ goingOn s f ⌝ }
+{
+    framed(on(s), f)
+}
+
+// (vi)
+fn tau_turn(
+    file: &[u8],
+    t: &[u8],
+    work: &[u8; 8192],
+    ws: &[u16; 28672],
+    ys: &[u16; 28672],
+    base: usize,
+    place: usize,
+    s: Copying,
+    starts: &[u16; 253],
+    len: usize,
+    end: usize,
+) -> Near
+    requires { ⌜ Ready (now file) (now t) (now work) (now ws) (now ys) base s (recordOf (now starts) len end) × (getD (now work) (s .from) 0 ≡ 0) ⌝ }
+    ensures { λ r. ⌜ Ruled (now (file .entry)) (now (t .entry)) (now (work .entry)) (now (work .entry)) (now (ws .entry)) (now (ys .entry)) (now (ys .entry)) base place s (recordOf (now (starts .entry)) len end) (withFrame r (recordOf (now (starts .entry)) len end)) ⌝ }
+{
+    if s.ytop > 0 {
+        return finish(255, place, s);
+    }
+    if s.top == base {
+        return finish(0, 0, s);
+    }
+    let v = slot_at(ws, s.top - 1);
+    finish(8, v.place, s)
+}
+
+// (viii)
+fn var_turn(
+    file: &[u8],
+    tb: &[i32; 256],
+    t: &[u8],
+    work: &[u8; 8192],
+    ws: &[u16; 28672],
+    ys: &[u16; 28672],
+    base: usize,
+    place: usize,
+    s: Copying,
+    starts: &[u16; 253],
+    len: usize,
+    end: usize,
+) -> Near
+    requires { ⌜ Tabled (now tb) × Ready (now file) (now t) (now work) (now ws) (now ys) base s (recordOf (now starts) len end) × (getD (now work) (s .from) 0 ≡ 0 → ⊥) × (getD (now work) (s .from) 0 < 0xfe) ⌝ }
+    ensures { λ r. ⌜ Ruled (now (file .entry)) (now (t .entry)) (now (work .entry)) (now (work .entry)) (now (ws .entry)) (now (ys .entry)) (now (ys .entry)) base place s (recordOf (now (starts .entry)) len end) (withFrame r (recordOf (now (starts .entry)) len end)) ⌝ }
+{
+    let from = s.from;
+    let k = view(work[from], s.shift, s.cut);
+    let e = entry_at_by(tb, work, starts, len, end, k);
+    let all = &work[..];
+    let m = measure(all, e.domain, e.end);
+    let o = Copying {
+        top: s.top,
+        ytop: s.ytop,
+        from: e.domain,
+        to: e.end,
+        shift: k,
+        cut: 0,
+        scope: m.scope,
+        next: s.next,
+        comparisons: s.comparisons,
+    };
+    on(o)
+}
+
+// (ix)
+fn app_turn(
+    file: &[u8],
+    tb: &[i32; 256],
+    t: &[u8],
+    work: &[u8; 8192],
+    ws: &[u16; 28672],
+    ys: &mut [u16; 28672],
+    base: usize,
+    place: usize,
+    s: Copying,
+    starts: &[u16; 253],
+    len: usize,
+    end: usize,
+) -> Near
+    requires { ⌜ Tabled (now tb) × Ready (now file) (now t) (now work) (now ws) (now ys) base s (recordOf (now starts) len end) × (getD (now work) (s .from) 0 ≡ 0xfe) ⌝ }
+    ensures { λ r. ⌜ Ruled (now (file .entry)) (now (t .entry)) (now (work .entry)) (now (work .entry)) (now (ws .entry)) (now (ys .entry)) (now (ys .exit)) base place s (recordOf (now (starts .entry)) len end) (withFrame r (recordOf (now (starts .entry)) len end)) ⌝ }
+{
+    let from = s.from;
+    let m = end_of(tb, work, from + 1);
+    let all = &work[..];
+    let z = measure(all, from + 1, m);
+    let y = figures_of(ys, 0, s.ytop);
+    let v = Slot {
+        size: y.size + (m - from),
+        scope: larger(z.scope, y.scope),
+        depth: len,
+        place: from,
+        end: m,
+        shift: s.shift,
+        cut: s.cut,
+    };
+    note(ys, s.ytop, v);
+    let o = Copying {
+        top: s.top,
+        ytop: s.ytop + 1,
+        from: m,
+        to: s.to,
+        shift: s.shift,
+        cut: s.cut,
+        scope: 0,
+        next: s.next,
+        comparisons: s.comparisons,
+    };
+    on(o)
+}
+
+// (xii): [U] takes the last of Y; U ends at m.
+fn abs_yet(
+    file: &[u8],
+    t: &[u8],
+    work: &mut [u8; 8192],
+    ws: &[u16; 28672],
+    ys: &[u16; 28672],
+    base: usize,
+    place: usize,
+    s: Copying,
+    f: FrameRecord,
+    m: usize,
+) -> Turning
+    requires { ⌜ AbsReady (now file) (now t) (now work) (now ws) (now ys) base s f m × (0 < s .ytop) ⌝ }
+    ensures { λ r. ⌜ Ruled (now (file .entry)) (now (t .entry)) (now (work .entry)) (now (work .exit)) (now (ws .entry)) (now (ys .entry)) (now (ys .entry)) base place s f r ⌝ }
+{
+    let to = f.end;
+    let a = put_yet(work, ys, s.ytop, f.len, to, to);
+    let b = put_seen(work, 0xff, s.from + 1, m, a, s.shift, s.cut, 0);
+    let g = push(f, b);
+    let o = Copying {
+        top: s.top,
+        ytop: s.ytop - 1,
+        from: m,
+        to: s.to,
+        shift: s.shift,
+        cut: s.cut + 1,
+        scope: 0,
+        next: s.next,
+        comparisons: s.comparisons,
+    };
+    go(o, g)
+}
+
+// (x): nothing waits.
+fn abs_alone(
+    file: &[u8],
+    t: &[u8],
+    work: &mut [u8; 8192],
+    ws: &[u16; 28672],
+    ys: &[u16; 28672],
+    base: usize,
+    place: usize,
+    s: Copying,
+    f: FrameRecord,
+    m: usize,
+) -> Turning
+    requires { ⌜ AbsReady (now file) (now t) (now work) (now ws) (now ys) base s f m × (s .ytop ≤ 0) × (s .top ≡ base) ⌝ }
+    ensures { λ r. ⌜ Ruled (now (file .entry)) (now (t .entry)) (now (work .entry)) (now (work .exit)) (now (ws .entry)) (now (ys .entry)) (now (ys .entry)) base place s f r ⌝ }
+{
+    let to = f.end;
+    let b = put_seen(work, 0xff, s.from + 1, m, to, s.shift, s.cut, 0);
+    let g = push(f, b);
+    let o = Copying {
+        top: s.top,
+        ytop: s.ytop,
+        from: m,
+        to: s.to,
+        shift: s.shift,
+        cut: s.cut + 1,
+        scope: 0,
+        next: s.next,
+        comparisons: s.comparisons,
+    };
+    go(o, g)
+}
+
+// (xi): [U] takes the last of W, and is compared.
+fn abs_wait(
+    file: &[u8],
+    t: &[u8],
+    work: &mut [u8; 8192],
+    ws: &[u16; 28672],
+    ys: &[u16; 28672],
+    base: usize,
+    place: usize,
+    s: Copying,
+    f: FrameRecord,
+    m: usize,
+) -> Turning
+    requires { ⌜ AbsReady (now file) (now t) (now work) (now ws) (now ys) base s f m × (s .ytop ≤ 0) × (s .top ≡ base → ⊥) ⌝ }
+    ensures { λ r. ⌜ Ruled (now (file .entry)) (now (t .entry)) (now (work .entry)) (now (work .exit)) (now (ws .entry)) (now (ys .entry)) (now (ys .entry)) base place s f r ⌝ }
+{
+    let to = f.end;
+    let a = put_wait(t, work, ws, base, s.top, f.len, to);
+    let b = put_seen(work, 0xff, s.from + 1, m, a, s.shift, s.cut, 0);
+    let q = compare(file, s.next, work, f, a, b);
+    if q.number != 0 {
+        let v = slot_at(ws, s.top - 1);
+        return stop(q.number, v.place, s, f);
+    }
+    let g = push(f, b);
+    let o = Copying {
+        top: s.top - 1,
+        ytop: s.ytop,
+        from: m,
+        to: s.to,
+        shift: s.shift,
+        cut: s.cut + 1,
+        scope: 0,
+        next: q.next,
+        comparisons: s.comparisons + 1,
+    };
+    go(o, g)
+}
+
+fn abs_turn(
+    file: &[u8],
+    tb: &[i32; 256],
+    t: &[u8],
+    work: &mut [u8; 8192],
+    ws: &[u16; 28672],
+    ys: &[u16; 28672],
+    base: usize,
+    place: usize,
+    s: Copying,
+    f: FrameRecord,
+) -> Turning
+    requires { ⌜ Tabled (now tb) × Ready (now file) (now t) (now work) (now ws) (now ys) base s f × (0xfe ≤ getD (now work) (s .from) 0) × (getD (now work) (s .from) 0 ≡ 0xfe → ⊥) ⌝ }
+    ensures { λ r. ⌜ Ruled (now (file .entry)) (now (t .entry)) (now (work .entry)) (now (work .exit)) (now (ws .entry)) (now (ys .entry)) (now (ys .entry)) base place s f r ⌝ }
+{
+    let m = end_of(tb, work, s.from + 1);
+    if 0 < s.ytop {
+        return abs_yet(file, t, work, ws, ys, base, place, s, f, m);
+    }
+    if s.top == base {
+        return abs_alone(file, t, work, ws, ys, base, place, s, f, m);
+    }
+    abs_wait(file, t, work, ws, ys, base, place, s, f, m)
+}
+
+// A turn that leaves the frame as it is: (vi), (viii) or (ix).
+fn near_turn(
+    file: &[u8],
+    tb: &[i32; 256],
+    t: &[u8],
+    work: &[u8; 8192],
+    ws: &[u16; 28672],
+    ys: &mut [u16; 28672],
+    base: usize,
+    place: usize,
+    s: Copying,
+    starts: &[u16; 253],
+    len: usize,
+    end: usize,
+) -> Near
+    requires { ⌜ Tabled (now tb) × Ready (now file) (now t) (now work) (now ws) (now ys) base s (recordOf (now starts) len end) × (getD (now work) (s .from) 0 ≤ 0xfe) ⌝ }
+    ensures { λ r. ⌜ Ruled (now (file .entry)) (now (t .entry)) (now (work .entry)) (now (work .entry)) (now (ws .entry)) (now (ys .entry)) (now (ys .exit)) base place s (recordOf (now (starts .entry)) len end) (withFrame r (recordOf (now (starts .entry)) len end)) ⌝ }
+{
+    let from = s.from;
+    let b = work[from];
+    if b == 0 {
+        return tau_turn(file, t, work, ws, ys, base, place, s, starts, len, end);
+    }
+    if b < 0xfe {
+        return var_turn(file, tb, t, work, ws, ys, base, place, s, starts, len, end);
+    }
+    app_turn(file, tb, t, work, ws, ys, base, place, s, starts, len, end)
+}
+
+// Turns until an abstractor, or the end. The frame is lent in its parts: no turn copies it.
+fn settle(
+    file: &[u8],
+    tb: &[i32; 256],
+    t: &[u8],
+    work: &[u8; 8192],
+    ws: &[u16; 28672],
+    ys: &mut [u16; 28672],
+    base: usize,
+    place: usize,
+    s: Copying,
+    f: FrameRecord,
+) -> Near
+    requires { ⌜ Tabled (now tb) × Stated (now file) (now t) (now work) (now ws) (now ys) base s f ⌝ }
+    ensures { λ r. ⌜ Settles (now (file .entry)) (now (t .entry)) (now (work .entry)) (now (ws .entry)) (now (ys .entry)) (now (ys .exit)) base place s f r ⌝ }
+{
+    let mut z = s;
+    loop {
+        let ok = fits(
+            ws,
+            ys,
+            base,
+            z.top,
+            z.ytop,
+            f.end,
+            f.len,
+            z.to - z.from,
+            z.scope,
+        );
+        if !ok {
+            return finish(11, place, z);
+        }
+        let from = z.from;
+        if work[from] > 0xfe {
+            return on(z);
+        }
+        let r = near_turn(
+            file,
+            tb,
+            t,
+            work,
+            ws,
+            ys,
+            base,
+            place,
+            z,
+            &f.starts,
+            f.len,
+            f.end,
+        );
+        if !r.going {
+            return r;
+        }
+        let a = r.state;
+        z = a;
+    }
+}
+
+// Turns until an abstractor has been passed, or the end.
+fn turn(
+    file: &[u8],
+    tb: &[i32; 256],
+    t: &[u8],
+    work: &mut [u8; 8192],
+    ws: &[u16; 28672],
+    ys: &mut [u16; 28672],
+    base: usize,
+    place: usize,
+    s: Copying,
+    f: FrameRecord,
+) -> Turning
+    requires { ⌜ Tabled (now tb) × Stated (now file) (now t) (now work) (now ws) (now ys) base s f ⌝ }
+    ensures { λ r. ⌜ Turns (now (file .entry)) (now (t .entry)) (now (work .entry)) (now (work .exit)) (now (ws .entry)) (now (ys .entry)) (now (ys .exit)) base place s f r ⌝ }
+{
+    let r = settle(file, tb, t, work, ws, ys, base, place, s, f);
+    if !r.going {
+        return framed(r, f);
+    }
+    let a = r.state;
+    abs_turn(file, tb, t, work, ws, ys, base, place, a, f)
+}
+
+// Copied text, from a state on.
+pub fn copied(
+    file: &[u8],
+    tb: &[i32; 256],
+    t: &[u8],
+    work: &mut [u8; 8192],
+    ws: &[u16; 28672],
+    ys: &mut [u16; 28672],
+    base: usize,
+    place: usize,
+    s: Copying,
+    f: FrameRecord,
+) -> Walked
+    requires { ⌜ Tabled (now tb) × Stated (now file) (now t) (now work) (now ws) (now ys) base s f ⌝ }
+    ensures { λ r. ⌜ Copies (now (file .entry)) (now (t .entry)) (now (work .entry)) (now (work .exit)) (now (ws .entry)) (now (ys .entry)) (now (ys .exit)) base place s f r ⌝ }
+{
+    let mut z = s;
+    let mut g = f;
+    loop {
+        let r = turn(file, tb, t, work, ws, ys, base, place, z, g);
+        if !r.going {
+            return r.out;
+        }
+        let a = r.state;
+        let b = r.frame;
+        z = a;
+        g = b;
+    }
+}

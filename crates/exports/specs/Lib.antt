@@ -1,0 +1,3 @@
+-- The contracts of the exported calls.
+-- Assumes nothing.
+pub mod Numbers

@@ -1,0 +1,38 @@
+-- The answers of the calls as the numbers that a caller in C or Rust is given.
+-- Assumes nothing.
+use Prim.Native.Nat.{ℕ}
+use mathlib.Core.Path.{_≡_}
+use mathlib.Core.List.{List, [], _∷_}
+use lib.ListN.{length}
+use Rattle.examine.specs.declared.TermAnswer.{TermAnswer}
+use Rattle.files.specs.File.{FileAnswer}
+use Rattle.files.specs.Check.{CheckAnswer}
+use Rattle.calls.specs.Answers.{Written, nothing, answer}
+
+abbrev pub termNumbers : TermAnswer → List ℕ
+termNumbers a = a .number ∷ a .place ∷ a .degree ∷ []
+
+-- The part starts at byte 3, so its length tells it.
+abbrev pub fileNumbers : FileAnswer → List ℕ
+fileNumbers a = a .number ∷ a .place ∷ length (a .part) ∷ []
+
+abbrev pub checkNumbers : CheckAnswer → List ℕ
+checkNumbers a = a .number ∷ a .place ∷ a .comparisons ∷ a .degree ∷ []
+
+-- 1 for 'none'.
+abbrev pub noneOf : Written → ℕ
+noneOf (nothing _) = 1
+noneOf (answer _ _ _ _) = 0
+
+-- The numbers after the call; those before it are kept at 'none'.
+abbrev pub numbersOf : List ℕ → Written → List ℕ
+numbersOf before (nothing _) = before
+numbersOf before (answer n p k _) = n ∷ p ∷ k ∷ []
+
+abbrev pub bufferOf : Written → List ℕ
+bufferOf (nothing out) = out
+bufferOf (answer _ _ _ out) = out
+
+pub record Given (w : Written) (before after out : List ℕ) : Type 0 where
+  pub numbers : after ≡ numbersOf before w
+  pub buffer : out ≡ bufferOf w

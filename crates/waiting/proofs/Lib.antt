@@ -1,0 +1,5 @@
+-- The laws of this crate.
+-- Assumes nothing.
+pub mod Bytes
+pub mod Texts
+pub mod Queues

@@ -1,0 +1,3 @@
+-- The definitions and contracts of this crate.
+-- Assumes nothing.
+pub mod Waiting

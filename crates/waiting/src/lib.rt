@@ -1,0 +1,244 @@
+// Waiting applicators, seven numbers each in a lent array, and writing their K where a frame ends.
+ghost use mathlib.Core.Path.{_≡_};
+ghost use mathlib.Core.Bool.{false};
+ghost use Prim.Native.Nat.{_+_, _-_, _*_, _≤_, _<_, max};
+ghost use lib.ListN.{length};
+ghost use Rattle.code.specs.Limits.{longestState};
+ghost use Rattle.code.specs.Code.{Tabled};
+ghost use Rattle.frames.specs.Stored.{Standing, EndAt};
+ghost use Rattle.waiting.specs.Waiting.{queueLength, slotOf, within, SmallSlot, Noted, Figured, Fitted, Moved, Writable, Puts, TopAsked, TopPut};
+use code::End;
+use code::term_end_by;
+use indices::lift_above;
+use indices::lift_in_place;
+
+// The size and the scope of what waits.
+pub struct Figures {
+    pub size: usize,
+    pub scope: usize,
+}
+
+// A waiting applicator: the size and scope of what waits with it, the frame's depth when it was met, its place, the end of its
+// K, and the lift that K is seen through.
+pub struct Slot {
+    pub size: usize,
+    pub scope: usize,
+    pub depth: usize,
+    pub place: usize,
+    pub end: usize,
+    pub shift: usize,
+    pub cut: usize,
+}
+
+pub fn wide16(x: u16) -> usize
+    ensures { λ r. ⌜ (r ≡ x) × (r < 65536) ⌝ }
+{
+    x as usize
+}
+
+pub fn larger(x: usize, y: usize) -> usize
+    ensures { λ r. ⌜ r ≡ max x y ⌝ }
+{
+    if x < y { y } else { x }
+}
+
+// ---- Waiting applicators.
+pub fn slot_at(q: &[u16; 28672], j: usize) -> Slot
+    requires { ⌜ j < 4096 ⌝ }
+    ensures { λ r. ⌜ (r ≡ slotOf (now (q .entry)) j) × SmallSlot r ⌝ }
+{
+    Slot {
+        size: wide16(q[7 * j]),
+        scope: wide16(q[7 * j + 1]),
+        depth: wide16(q[7 * j + 2]),
+        place: wide16(q[7 * j + 3]),
+        end: wide16(q[7 * j + 4]),
+        shift: wide16(q[7 * j + 5]),
+        cut: wide16(q[7 * j + 6]),
+    }
+}
+
+pub fn note(q: &mut [u16; 28672], j: usize, v: Slot)
+    requires { ⌜ (j < 4096) × (length (now q) ≡ queueLength) × SmallSlot v ⌝ }
+    ensures { λ r. ⌜ Noted (now (q .entry)) (now (q .exit)) j v ⌝ }
+{
+    q[7 * j] = v.size as u16;
+    q[7 * j + 1] = v.scope as u16;
+    q[7 * j + 2] = v.depth as u16;
+    q[7 * j + 3] = v.place as u16;
+    q[7 * j + 4] = v.end as u16;
+    q[7 * j + 5] = v.shift as u16;
+    q[7 * j + 6] = v.cut as u16;
+}
+
+pub fn figures_of(q: &[u16; 28672], base: usize, top: usize) -> Figures
+    requires { ⌜ (base ≤ top) × (top ≤ 4096) ⌝ }
+    ensures { λ r. ⌜ Figured (now (q .entry)) base top r ⌝ }
+{
+    if top == base {
+        return Figures { size: 0, scope: 0 };
+    }
+    let v = slot_at(q, top - 1);
+    Figures {
+        size: v.size,
+        scope: v.scope,
+    }
+}
+
+// Whether a state is within the limits: its frame's bytes end at `end`, B has `size` bytes, and its scope is `scope`.
+pub fn fits(
+    ws: &[u16; 28672],
+    ys: &[u16; 28672],
+    base: usize,
+    top: usize,
+    ytop: usize,
+    end: usize,
+    depth: usize,
+    size: usize,
+    scope: usize,
+) -> bool
+    requires { ⌜ (base ≤ top) × (top ≤ 4096) × (ytop ≤ 4096) × (end < 65536) × (depth < 65536) × (size < 65536) × (scope < 65536) ⌝ }
+    ensures { λ r. ⌜ Fitted (now (ws .entry)) (now (ys .entry)) base top ytop end depth size scope r ⌝ }
+{
+    let w = figures_of(ws, base, top);
+    let y = figures_of(ys, 0, ytop);
+    if end + (w.size + (y.size + size)) > 8192 {
+        return false;
+    }
+    depth + larger(w.scope, larger(y.scope, scope)) <= 253
+}
+
+// ---- Bytes.
+fn copy_from(t: &[u8], p: usize, n: usize, work: &mut [u8; 8192], to: usize)
+    requires { ⌜ (p + n ≤ length (now t)) × (to + n ≤ longestState) × (length (now work) ≡ longestState) ⌝ }
+    ensures { λ r. ⌜ Moved (now (t .entry)) (now (work .entry)) (now (work .exit)) p n to ⌝ }
+{
+    let mut i = 0;
+    while i < n {
+        work[to + i] = t[p + i];
+        i += 1;
+    }
+}
+
+fn copy_in(work: &mut [u8; 8192], p: usize, n: usize, to: usize)
+    requires { ⌜ (p + n ≤ to) × (to + n ≤ longestState) × (length (now work) ≡ longestState) ⌝ }
+    ensures { λ r. ⌜ Moved (now (work .entry)) (now (work .entry)) (now (work .exit)) p n to ⌝ }
+{
+    let mut i = 0;
+    while i < n {
+        work[to + i] = work[p + i];
+        i += 1;
+    }
+}
+
+// The mark, and the term of t from p up to e, lifted by n above c and then by m.
+pub fn put_own(
+    t: &[u8],
+    work: &mut [u8; 8192],
+    mark: u8,
+    p: usize,
+    e: usize,
+    to: usize,
+    n: usize,
+    c: usize,
+    m: usize,
+) -> usize
+    requires { ⌜ (c < 65536) × Writable (now t) (now work) p e n c m to ⌝ }
+    ensures { λ r. ⌜ Puts mark (now (t .entry)) (now (work .entry)) (now (work .exit)) p e n c m to r ⌝ }
+{
+    let size = e - p;
+    let end = to + 1 + size;
+    work[to] = mark;
+    copy_from(t, p, size, work, to + 1);
+    lift_above(work, to + 1, end, n, c as u16);
+    lift_in_place(work, to + 1, end, m);
+    end
+}
+
+// The mark, and the term of work from p up to e, lifted by n above c and then by m.
+pub fn put_seen(
+    work: &mut [u8; 8192],
+    mark: u8,
+    p: usize,
+    e: usize,
+    to: usize,
+    n: usize,
+    c: usize,
+    m: usize,
+) -> usize
+    requires { ⌜ (e ≤ to) × (c < 65536) × Writable (now work) (now work) p e n c m to ⌝ }
+    ensures { λ r. ⌜ Puts mark (now (work .entry)) (now (work .entry)) (now (work .exit)) p e n c m to r ⌝ }
+{
+    let size = e - p;
+    let end = to + 1 + size;
+    work[to] = mark;
+    copy_in(work, p, size, to + 1);
+    lift_above(work, to + 1, end, n, c as u16);
+    lift_in_place(work, to + 1, end, m);
+    end
+}
+
+// ⟨K⟩ of the last of W, as it stands after d abstractors.
+pub fn put_wait(
+    t: &[u8],
+    work: &mut [u8; 8192],
+    ws: &[u16; 28672],
+    base: usize,
+    top: usize,
+    d: usize,
+    to: usize,
+) -> usize
+    requires { ⌜ TopAsked (now t) (now ws) (now work) d (length (now t)) base top to × (base < top) ⌝ }
+    ensures { λ r. ⌜ TopPut (now (t .entry)) (now (ws .entry)) (now (work .entry)) (now (work .exit)) d (length (now (t .entry))) base top to r ⌝ }
+{
+    let v = slot_at(ws, top - 1);
+    let passed = d - v.depth;
+    put_own(
+        t,
+        work,
+        0xfe,
+        v.place + 1,
+        v.end,
+        to,
+        v.shift,
+        v.cut,
+        passed,
+    )
+}
+
+// ⟨K⟩ of the last of Y, likewise.
+pub fn put_yet(
+    work: &mut [u8; 8192],
+    ys: &[u16; 28672],
+    top: usize,
+    d: usize,
+    to: usize,
+    limit: usize,
+) -> usize
+    requires { ⌜ TopAsked (now work) (now ys) (now work) d limit 0 top to × (0 < top) × (limit ≤ to) ⌝ }
+    ensures { λ r. ⌜ TopPut (now (work .entry)) (now (ys .entry)) (now (work .entry)) (now (work .exit)) d limit 0 top to r ⌝ }
+{
+    let v = slot_at(ys, top - 1);
+    put_seen(
+        work,
+        0xfe,
+        v.place + 1,
+        v.end,
+        to,
+        v.shift,
+        v.cut,
+        d - v.depth,
+    )
+}
+
+// Where the term that starts at p ends.
+pub fn end_of(tb: &[i32; 256], work: &[u8; 8192], p: usize) -> usize
+    requires { ⌜ Tabled (now tb) × Standing (now work) p ⌝ }
+    ensures { λ r. ⌜ EndAt (now (work .entry)) p r ⌝ }
+{
+    let all = &work[..];
+    let End::At(e) = term_end_by(tb, all, p) else {
+        return p;
+    };
+    e
+}

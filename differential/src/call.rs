@@ -1,0 +1,173 @@
+//! One call, and the two answers to it.
+
+use reference::gen::Rng;
+use reference::TypeAnswer;
+use std::fmt;
+use std::panic::{catch_unwind, AssertUnwindSafe};
+
+#[derive(Clone, Copy, PartialEq, Eq, Debug)]
+pub enum Kind {
+    Term,
+    File,
+    Type,
+    Step(u8, u16),
+    Check,
+}
+
+use Kind::*;
+
+/// Bytes before and after a lent buffer that no call may touch.
+const GUARD: usize = 8;
+
+/// A call: which one, its input, and for Type and Step the bytes of the buffer before the call, with a guard on each side.
+#[derive(Clone, PartialEq, Eq)]
+pub struct Call {
+    pub kind: Kind,
+    pub input: Vec<u8>,
+    pub buffer: Vec<u8>,
+}
+
+/// An answer: the call's numbers, or none if it is 'none', and the buffer and its guards after the call.
+#[derive(Clone, PartialEq, Eq)]
+pub struct Answer {
+    pub numbers: Option<[u64; 4]>,
+    buffer: Vec<u8>,
+}
+
+impl Answer {
+    /// The refusal's number, 0 if accepted.
+    pub fn number(&self) -> Option<usize> {
+        self.numbers.map(|numbers| numbers[0] as usize)
+    }
+
+    fn of(numbers: [u64; 4], buffer: Vec<u8>) -> Answer {
+        Answer { numbers: Some(numbers), buffer }
+    }
+}
+
+impl Call {
+    pub fn new(kind: Kind, input: &[u8]) -> Call {
+        Call { kind, input: input.to_vec(), buffer: Vec::new() }
+    }
+
+    /// With a buffer of this length, its bytes and those of the guards as they come.
+    pub fn lending(kind: Kind, input: &[u8], length: usize, rng: &mut Rng) -> Call {
+        Call { kind, input: input.to_vec(), buffer: rng.bytes(length + 2 * GUARD) }
+    }
+
+    /// The proved library's answer.
+    pub fn proved(&self) -> Answer {
+        let s = &self.input[..];
+        let mut buffer = self.buffer.clone();
+        let numbers = match self.kind {
+            Term => {
+                let a = bijterne::examine_term(s);
+                Some([a.number.into(), a.place as u64, a.degree as u64, 0])
+            }
+            File => {
+                let a = bijterne::examine_file(s);
+                let start = if a.term.is_empty() { 0 } else { a.term.as_ptr() as usize - s.as_ptr() as usize };
+                Some([a.number.into(), a.place as u64, start as u64, (start + a.term.len()) as u64])
+            }
+            Type => bijterne::write_type(s, lent(&mut buffer)).map(|a| [a.number.into(), a.place as u64, a.length as u64, 0]),
+            Step(kind, place) => {
+                let a = bijterne::apply_step(s, kind, place, lent(&mut buffer));
+                Some([a.number.into(), a.place as u64, a.length as u64, 0])
+            }
+            Check => {
+                // SAFETY: the program runs its calls on stacks larger than any check needs.
+                let a = unsafe { bijterne::check_here(s) };
+                Some([a.number.into(), a.place as u64, a.comparisons as u64, a.degree as u64])
+            }
+        };
+        Answer { numbers, buffer }
+    }
+
+    /// The reference's answer; none if it panics.
+    pub fn reference(&self) -> Option<Answer> {
+        let mut buffer = self.buffer.clone();
+        catch_unwind(AssertUnwindSafe(move || {
+            let s = &self.input[..];
+            match self.kind {
+                Term => {
+                    let a = reference::examine_term(s);
+                    Answer::of([a.number.into(), a.place as u64, a.degree, 0], buffer)
+                }
+                File => {
+                    let a = reference::examine_file(s);
+                    Answer::of([a.number.into(), a.place as u64, a.part.start as u64, a.part.end as u64], buffer)
+                }
+                Type => match reference::write_type(s, lent(&mut buffer)) {
+                    TypeAnswer::None_ => Answer { numbers: None, buffer },
+                    TypeAnswer::Answer { number, place, len } => Answer::of([number.into(), place as u64, len as u64, 0], buffer),
+                },
+                Step(kind, place) => {
+                    let a = reference::apply_step(s, kind, place, lent(&mut buffer));
+                    Answer::of([a.number.into(), a.place as u64, a.len as u64, 0], buffer)
+                }
+                Check => {
+                    let a = reference::check(s);
+                    Answer::of([a.number.into(), a.place as u64, a.comparisons as u64, a.degree], buffer)
+                }
+            }
+        }))
+        .ok()
+    }
+
+    /// How long its lent buffer is.
+    pub fn lent(&self) -> usize {
+        self.buffer.len().saturating_sub(2 * GUARD)
+    }
+
+    /// The same call with a buffer of this length and 0 everywhere in it.
+    pub fn with_zeros(&self, length: usize) -> Call {
+        let all = if self.buffer.is_empty() { 0 } else { length + 2 * GUARD };
+        Call { buffer: vec![0; all], ..self.clone() }
+    }
+
+    /// The one answer of both, or none.
+    pub fn agreed(&self) -> Option<Answer> {
+        let proved = self.proved();
+        (self.reference().as_ref() == Some(&proved)).then_some(proved)
+    }
+}
+
+fn lent(buffer: &mut [u8]) -> &mut [u8] {
+    let end = buffer.len() - GUARD;
+    &mut buffer[GUARD..end]
+}
+
+/// Bytes in hexadecimal.
+struct Hex<'a>(&'a [u8]);
+
+impl fmt::Display for Hex<'_> {
+    fn fmt(&self, f: &mut fmt::Formatter) -> fmt::Result {
+        self.0.iter().try_for_each(|byte| write!(f, "{byte:02x}"))
+    }
+}
+
+/// A buffer's lent bytes between those of its guards.
+fn with_guards(buffer: &[u8]) -> String {
+    if buffer.is_empty() {
+        return String::new();
+    }
+    let (before, rest) = buffer.split_at(GUARD);
+    let (lent, after) = rest.split_at(rest.len() - GUARD);
+    format!(" buffer {}|{}|{}", Hex(before), Hex(lent), Hex(after))
+}
+
+impl fmt::Display for Call {
+    fn fmt(&self, f: &mut fmt::Formatter) -> fmt::Result {
+        write!(f, "{:?} of {} bytes {}{}", self.kind, self.input.len(), Hex(&self.input), with_guards(&self.buffer))
+    }
+}
+
+impl fmt::Display for Answer {
+    fn fmt(&self, f: &mut fmt::Formatter) -> fmt::Result {
+        match self.numbers {
+            None => write!(f, "none")?,
+            Some([a, b, c, d]) => write!(f, "{a} {b} {c} {d}")?,
+        }
+        write!(f, "{}", with_guards(&self.buffer))
+    }
+}

@@ -1,0 +1,300 @@
+//! Inputs at the limits, each with the answer that document 01 gives it, written out: just within a limit and just beyond it.
+//!
+//! Every state's size is odd: a wagon counts 1 and a term, whose size is odd. So 8,192 bytes is no state's size, and 8,191 and
+//! 8,193 are the neighbours of that limit; 4,095 and 4,097 those of a compared body's. While B is the term's own text, R, W and
+//! B are parts of that text, so a state outgrows the bytes in copied text only. A U by itself never outgrows: its bytes are
+//! those of a term, and its scopes were tested with the state before.
+
+use crate::call::{Call, Kind};
+use reference::file::Group;
+use reference::frame::{Step, LOCAL, REMOVAL};
+use reference::gen::{all_four, empty_groups, file, nested, stepped_copies, times, Rng};
+
+pub struct Named {
+    pub name: &'static str,
+    pub call: Call,
+    /// What is expected; none for the answer 'none'.
+    pub numbers: Option<[u64; 4]>,
+}
+
+/// The four numbers of a check.
+type Numbers = (u64, usize, u64, u64);
+
+struct Table(Vec<Named>);
+
+impl Table {
+    fn check(&mut self, name: &'static str, file: Vec<u8>, (number, place, comparisons, degree): Numbers) {
+        let numbers = Some([number, place as u64, comparisons, degree]);
+        self.0.push(Named { name, call: Call::new(Kind::Check, &file), numbers });
+    }
+
+    /// A file with empty groups.
+    fn plain(&mut self, name: &'static str, term: &[u8], groups: usize, numbers: Numbers) {
+        self.check(name, file(term, &empty_groups(groups)), numbers);
+    }
+
+    /// A call on a bare term, with a buffer of this length: number, place, and degree or length.
+    fn bare(&mut self, name: &'static str, kind: Kind, term: &[u8], lent: usize, numbers: Option<(u64, usize, u64)>) {
+        let numbers = numbers.map(|(number, place, third)| [number, place as u64, third, 0]);
+        self.0.push(Named { name, call: Call::lending(kind, term, lent, &mut Rng::new(0)), numbers });
+    }
+}
+
+fn joined(parts: &[&[u8]]) -> Vec<u8> {
+    parts.concat()
+}
+
+/// `n` times [τ].
+fn train(n: usize) -> Vec<u8> {
+    times(n, &[0xff, 0])
+}
+
+fn local(place: usize) -> Vec<Step> {
+    vec![Step { kind: LOCAL, place }]
+}
+
+fn removal(place: usize) -> Vec<Step> {
+    vec![Step { kind: REMOVAL, place }]
+}
+
+fn group(left: Vec<Step>, right: Vec<Step>) -> Group {
+    Group { head: 0, left, right }
+}
+
+fn no_steps() -> Group {
+    group(Vec::new(), Vec::new())
+}
+
+pub fn named() -> Vec<Named> {
+    let mut table = Table(Vec::new());
+    files(&mut table);
+    terms(&mut table);
+    scopes(&mut table);
+    states(&mut table);
+    bodies(&mut table);
+    places(&mut table);
+    frame_pairs(&mut table);
+    bare(&mut table);
+    table.0
+}
+
+/// Lengths of files, numbers of groups, cuts.
+fn files(t: &mut Table) {
+    t.check("no byte", vec![], (1, 0, 0, 0));
+    t.check("65,535 bytes", vec![0; 65_535], (2, 0, 0, 0));
+    t.check("65,536 bytes", vec![0; 65_536], (4, 0, 0, 0));
+    t.plain("10,921 empty groups", &[0], 10_921, (13, 4, 0, 1));
+    t.plain("10,922 empty groups", &[0], 10_922, (4, 0, 0, 0));
+    t.plain("10,921 empty groups, no term", &[], 10_921, (3, 0, 0, 0));
+    t.plain("10,922 empty groups, no term", &[], 10_922, (3, 0, 0, 0));
+    // E3 with its groups: the term's field is 16 bytes, then 6, then 9.
+    let term = [0xff, 0, 0xff, 1, 0xfe, 2, 0xff, 0, 0xfe, 2, 0xff, 1, 1];
+    let good = file(&term, &[no_steps(), group(vec![], local(0))]);
+    t.check("E3", good.clone(), (0, 0, 2, 3));
+    for length in 0..good.len() {
+        let numbers = match length {
+            0..=15 => (1, 0, 0, 0),
+            16 => (9, 4, 0, 3),
+            17..=18 => (1, 16, 0, 0),
+            19..=21 => (1, 19, 0, 0),
+            22 => (9, 8, 1, 3),
+            23..=24 => (1, 22, 0, 0),
+            _ => (1, 25, 0, 0),
+        };
+        t.check("E3 cut", good[..length].to_vec(), numbers);
+    }
+}
+
+/// Sizes, nesting and scopes of the term itself.
+fn terms(t: &mut Table) {
+    let applied = |n: usize| joined(&[&vec![0xfe; n], &vec![0; n + 1]]);
+    t.plain("4,095 bytes of term", &nested(2_047), 0, (0, 0, 0, 1));
+    t.plain("4,096 bytes of term", &joined(&[&nested(2_047), &[0]]), 0, (3, 4_095, 0, 0));
+    t.plain("4,097 bytes of term", &nested(2_048), 0, (4, 0, 0, 0));
+    t.plain("2,047 applicators in each other", &applied(2_047), 0, (8, 2_046, 0, 1));
+    t.plain("2,047 applicators in a train", &joined(&[&times(2_047, &[0xfe, 0]), &[0]]), 0, (8, 4_092, 0, 1));
+    t.plain("200 declarations, then 1,800 in each other", &joined(&[&train(200), &nested(1_800)]), 0, (0, 0, 0, 1));
+    t.plain("253 abstractors", &joined(&[&train(253), &[0xfd]]), 0, (0, 0, 0, 2));
+    t.plain("254 abstractors", &joined(&[&train(254), &[1]]), 0, (6, 506, 0, 0));
+    t.plain("the farthest index", &joined(&[&train(252), &[0xfc]]), 0, (0, 0, 0, 2));
+    t.plain("an index too far", &joined(&[&train(252), &[0xfd]]), 0, (5, 504, 0, 0));
+}
+
+/// 253 and 254 abstractors in scope of something that waits, is copied or is compared.
+fn scopes(t: &mut Table) {
+    // [τ] ⟨m abstractors, 1⟩, n pairs ⟨1⟩[τ], τ: K waits in 1 + n + m scopes.
+    let waiting = |m: usize, n: usize| joined(&[&[0xff, 0, 0xfe], &train(m), &[1], &times(n, &[0xfe, 1, 0xff, 0]), &[0]]);
+    t.plain("a waiting K in 253 scopes", &waiting(249, 3), 3, (8, 2, 3, 1));
+    t.plain("a waiting K in 254 scopes", &waiting(250, 3), 3, (11, 516, 3, 1));
+    t.plain("a waiting K in 253 scopes, a pair fewer", &waiting(250, 2), 2, (8, 2, 2, 1));
+
+    // A copied K waits in Y. [x:τ][y:x]⟨m abstractors, x⟩[D: m abstractors, τ], then a declaration of ⟨m abstractors, y⟩
+    // 3 pairs [D] τ, whose U has the name D so that only K is deep; n declarations and its variable: 3 + 1 + n, 3 pairs and m.
+    let copied = |m: usize, n: usize| {
+        let deep = train(m);
+        let names = joined(&[&[0xff, 0, 0xff, 1, 0xfe], &deep, &[m as u8 + 2, 0xff], &deep, &[0]]);
+        let block = joined(&[&[0xfe], &deep, &[m as u8 + 2, 0xfe, 3, 0xff, 0], &times(2, &[0xfe, 1, 0xff, 0]), &[0xff, 4, 0]]);
+        let term = joined(&[&names, &[0xff], &block, &train(n), &[n as u8 + 1]]);
+        let groups = [no_steps(), no_steps(), no_steps(), no_steps(), group(vec![], local(0))];
+        (term.len(), file(&term, &groups))
+    };
+    t.check("a copied K in 253 scopes", copied(100, 146).1, (0, 0, 5, 2));
+    let (length, beyond) = copied(100, 147);
+    t.check("a copied K in 254 scopes", beyond, (11, length - 1, 5, 2));
+
+    // [[m abstractors] τ] n abstractors, then the first variable: its type is m + n + 1 deep.
+    let typed = |m: usize, n: usize| joined(&[&[0xff], &train(m), &[0], &train(n), &[n as u8 + 1]]);
+    t.plain("a copied B in 253 scopes", &typed(100, 152), 0, (0, 0, 0, 2));
+    t.plain("a copied B in 254 scopes", &typed(100, 153), 0, (11, 508, 0, 2));
+    t.plain("example 11", &typed(1, 252), 0, (11, 508, 0, 2));
+
+    // A term of the frame is in the scope of the entries before its own alone.
+    let first = joined(&[&[0xff], &train(100), &[0], &train(252), &[0]]);
+    t.plain("a deep U under 252 later declarations", &first, 0, (0, 0, 0, 1));
+
+    // 50 in R, the first with m in its U; K with 60 of its own and that variable waits while 40 pairs are passed.
+    let compared = |m: usize| {
+        let pairs = times(40, &[0xfe, 1, 0xff, 0]);
+        joined(&[&[0xff], &train(m), &[0], &train(49), &[0xfe], &train(60), &[110], &pairs, &[0xff, 0, 0]])
+    };
+    t.plain("a type of K in 253 scopes", &compared(103), 41, (12, 306, 40, 1));
+    t.plain("a type of K in 254 scopes", &compared(104), 41, (11, 308, 40, 1));
+    t.plain("a type of K in 254 scopes, no group", &compared(104), 40, (9, 308, 40, 1));
+
+    // [x:τ]⟨⟨m abstractors, x⟩[m abstractors, τ] x⟩[D:τ][z: n abstractors, D]⟨z⟩[n abstractors, D]τ, D replaced on one side.
+    let stepped = |n: usize, left: bool| {
+        let m = 50;
+        let under = |index: usize| joined(&[&train(n), &[index as u8]]);
+        let definition = joined(&[&[0xff, 0, 0xfe, 0xfe], &train(m), &[m as u8 + 1, 0xff], &train(m), &[0, 2, 0xff, 0]]);
+        let term = joined(&[&definition, &[0xff], &under(n + 1), &[0xfe, 1, 0xff], &under(n + 2), &[0]]);
+        let step = local(2 * n);
+        let last = if left { group(step, vec![]) } else { group(vec![], step) };
+        file(&term, &[no_steps(), group(removal(0), vec![]), last])
+    };
+    let applicator = |n: usize| 2 + (2 + 101 + 1 + 101 + 1) + 2 + (1 + 2 * n + 1);
+    for left in [true, false] {
+        t.check("a body in 253 scopes by a step", stepped(200, left), (12, applicator(200), 2, 1));
+        t.check("a body in 254 scopes by a step", stepped(201, left), (11, applicator(201), 2, 1));
+    }
+}
+
+/// States of 8,191 and 8,193 bytes.
+fn states(t: &mut Table) {
+    // [..[[τ]1]1..]1 with 90 abstractors: typing goes down the chain, and each U joins the frame; 90 · 91 + 1 bytes at τ.
+    let chain = joined(&[&[0xff; 90], &[0], &[1; 90]]);
+    t.plain("8,191 bytes: 90 typings", &chain, 0, (0, 0, 0, 91));
+    t.plain("8,193 bytes: 90 typings", &joined(&[&[0xff, 0], &chain]), 0, (11, 182, 0, 91));
+
+    // [[V]1]1: when the copied 1 is typed the state has V three times and 4 bytes.
+    let thrice = joined(&[&[0xff, 0xff], &nested(1_364), &[1, 1]]);
+    t.plain("8,191 bytes: R and B", &thrice, 0, (0, 0, 0, 3));
+    t.plain("8,193 bytes: R and B", &joined(&[&[0xff, 0], &thrice]), 0, (11, thrice.len() + 1, 0, 3));
+
+    // K waits at τ if the state fits.
+    let all = |k: usize| {
+        let (term, groups) = all_four(509, k);
+        file(&term, &groups)
+    };
+    t.check("8,191 bytes: R, W, Y and B", all(1_015), (8, 2_060, 3, 3));
+    t.check("8,193 bytes: R, W, Y and B", all(1_016), (11, 4_094, 3, 3));
+}
+
+/// Compared bodies of 4,095 and 4,097 bytes.
+fn bodies(t: &mut Table) {
+    // ⟨[V]1⟩[τ]τ: the type of K is [V]V, 4,095 bytes; [τ] before that makes 4,097.
+    let typed = |more: usize| joined(&[&[0xfe], &train(more), &[0xff], &nested(1_023), &[1, 0xff, 0, 0]]);
+    t.plain("a type of K of 4,095 bytes", &typed(0), 1, (12, 0, 0, 1));
+    t.plain("a type of K of 4,097 bytes", &typed(1), 1, (11, 0, 0, 1));
+    t.plain("a type of K of 4,097 bytes, no group", &typed(1), 0, (9, 0, 0, 1));
+    let bad = Step { kind: 9, place: 0 };
+    t.check("a type of 4,095 bytes, a bad step", file(&typed(0), &[group(vec![bad], vec![])]), (10, 0, 0, 1));
+    t.check("a type of 4,097 bytes, a bad step", file(&typed(1), &[group(vec![bad], vec![])]), (11, 0, 0, 1));
+
+    // [D][D]..τ with each D replaced: 23 copies of 177 bytes make 4,095, 16 of 255 make 4,097.
+    for (copies, size) in [(23, 177), (16, 255)] {
+        let (term, groups) = stepped_copies(copies, size);
+        let steps = groups[1].left.clone();
+        let but_one = &steps[..copies - 1];
+        let place = 2 + 2 * (1 + size) + (1 + 2 * copies + 1);
+        let end = |left: &[Step], right: &[Step]| file(&term, &[no_steps(), group(left.to_vec(), right.to_vec())]);
+        if copies == 23 {
+            t.check("4,095 bytes by steps on both sides", end(&steps, &steps), (0, 0, 2, 2));
+            t.check("4,095 bytes by steps on the left", end(&steps, &[]), (12, place, 1, 2));
+            t.check("4,095 bytes by steps on the right", end(&[], &steps), (12, place, 1, 2));
+        } else {
+            t.check("4,097 bytes by steps on the left", end(&steps, &[]), (11, place, 1, 2));
+            t.check("4,097 bytes by steps on the right", end(&[], &steps), (11, place, 1, 2));
+            t.check("a step before 4,097 bytes", end(but_one, but_one), (0, 0, 2, 2));
+        }
+    }
+}
+
+/// Steps at the last places. [a:τ]⟨a⟩[D:τ][g:[τ]D]⟨g⟩[[τ]a]τ: the type of g is [τ]D, 3 bytes, with D at place 2.
+fn places(t: &mut Table) {
+    let term = [0xff, 0, 0xfe, 1, 0xff, 0, 0xff, 0xff, 0, 2, 0xfe, 1, 0xff, 0xff, 0, 4, 0];
+    let with = |left: Vec<Step>, right: Vec<Step>| file(&term, &[no_steps(), group(left, right)]);
+    t.check("a step at the body's last byte", with(local(2), vec![]), (0, 0, 2, 1));
+    for place in [3, 4, 255, 256, 65_534, 65_535] {
+        t.check("a left step past the body", with(local(place), vec![]), (10, 10, 1, 1));
+        t.check("a right step past the body", with(local(2), local(place)), (10, 10, 1, 1));
+        t.check("a removal past the body", with(removal(place), vec![]), (10, 10, 1, 1));
+    }
+    t.check("a step at τ", with(local(1), vec![]), (10, 10, 1, 1));
+    t.check("a step at an abstractor", with(local(0), vec![]), (10, 10, 1, 1));
+    // Place 2 with a high byte: 02 00 is 512.
+    t.check("a place's bytes the wrong way round", with(local(512), vec![]), (10, 10, 1, 1));
+}
+
+/// Pairs of the frame whose parts were not neighbours: [a:τ][b:τ]⟨b⟩⟨a⟩[x:τ][y:τ][g:v]⟨g⟩[u]τ. x goes with a and y with b;
+/// the type of g is v, and its replacement u.
+fn frame_pairs(t: &mut Table) {
+    let term = |v: u8, u: u8| [0xff, 0, 0xff, 0, 0xfe, 1, 0xfe, 2, 0xff, 0, 0xff, 0, 0xff, v, 0xfe, 1, 0xff, u, 0];
+    let with = |v: u8, u: u8| file(&term(v, u), &[no_steps(), no_steps(), group(local(0), vec![])]);
+    let (x, y) = (2, 1);
+    let (a, b) = (5, 4);
+    t.check("y is b", with(y, b), (0, 0, 3, 1));
+    t.check("y is not a", with(y, a), (12, 14, 2, 1));
+    t.check("x is a", with(x, a), (0, 0, 3, 1));
+    t.check("x is not b", with(x, b), (12, 14, 2, 1));
+    t.check("b is no pair", with(3, b), (10, 14, 2, 1));
+}
+
+/// The calls on a bare term.
+fn bare(t: &mut Table) {
+    use Kind::{Step, Term, Type};
+    t.bare("4,095 bytes", Term, &nested(2_047), 0, Some((0, 0, 1)));
+    t.bare("4,096 bytes", Term, &joined(&[&nested(2_047), &[0]]), 0, Some((3, 4_095, 0)));
+    t.bare("4,096 bytes, no end", Term, &[0xff; 4_096], 0, Some((3, 4_096, 0)));
+    t.bare("4,097 bytes", Term, &nested(2_048), 0, Some((4, 0, 0)));
+    t.bare("degree 2,048", Term, &joined(&[&[0xff; 2_047], &[0], &[1; 2_047]]), 0, Some((0, 0, 2_048)));
+
+    let typed = |more: usize| joined(&[&train(more), &[0xff], &nested(1_023), &[1]]);
+    t.bare("a type of 4,095 bytes, exact", Type, &typed(0), 4_095, Some((0, 0, 4_095)));
+    t.bare("a type of 4,095 bytes, longer", Type, &typed(0), 4_097, Some((0, 0, 4_095)));
+    t.bare("a type of 4,095 bytes, shorter", Type, &typed(0), 4_094, Some((14, 0, 0)));
+    t.bare("a type of 4,097 bytes", Type, &typed(1), 5_000, Some((11, 0, 0)));
+    t.bare("a type of 4,097 bytes, no buffer", Type, &typed(1), 0, Some((11, 0, 0)));
+    t.bare("no type", Type, &nested(2_047), 5_000, None);
+    let deep = |n: usize| joined(&[&[0xff], &train(100), &[0], &train(n), &[n as u8 + 1]]);
+    t.bare("a type in 253 scopes", Type, &deep(152), 5_000, Some((0, 0, 707)));
+    t.bare("a type in 254 scopes", Type, &deep(153), 5_000, Some((11, 0, 0)));
+
+    // ⟨K⟩[τ][1]1 with the 1 in the U replaced, 4,095 bytes; [τ] before that makes 4,097.
+    let stepped = |more: usize| joined(&[&train(more), &[0xfe], &nested(1_022), &[0xff, 0, 0xff, 1, 1]]);
+    let at = |more: u16| Step(LOCAL, 2 * more + 2_049);
+    t.bare("a step to 4,095 bytes, exact", at(0), &stepped(0), 4_095, Some((0, 0, 4_095)));
+    t.bare("a step to 4,095 bytes, shorter", at(0), &stepped(0), 4_094, Some((14, 0, 0)));
+    t.bare("a step to 4,097 bytes", at(1), &stepped(1), 5_000, Some((11, 0, 0)));
+    t.bare("a step to 4,097 bytes, no buffer", at(1), &stepped(1), 0, Some((11, 0, 0)));
+    let deep = |n: usize| joined(&[&[0xfe], &train(n), &[0, 0xff, 0], &train(100), &[101]]);
+    let at = |n: usize| Step(LOCAL, 2 * n as u16 + 204);
+    t.bare("a step into 253 scopes", at(152), &deep(152), 5_000, Some((0, 0, 813)));
+    t.bare("a step into 254 scopes", at(153), &deep(153), 5_000, Some((11, 0, 0)));
+    let pair = [0xfe, 0, 0xff, 0, 0];
+    t.bare("a removal, exact", Step(REMOVAL, 0), &pair, 1, Some((0, 0, 1)));
+    t.bare("a removal, no buffer", Step(REMOVAL, 0), &pair, 0, Some((14, 0, 0)));
+    t.bare("a step at the last byte", Step(LOCAL, 4), &[0xfe, 0, 0xff, 0, 1], 5, Some((0, 0, 5)));
+    t.bare("a step at the length", Step(LOCAL, 5), &[0xfe, 0, 0xff, 0, 1], 5, Some((10, 0, 0)));
+    t.bare("a step at 65,535", Step(LOCAL, 65_535), &[0xfe, 0, 0xff, 0, 1], 5, Some((10, 0, 0)));
+    t.bare("a removal at 65,535", Step(REMOVAL, 65_535), &pair, 5, Some((10, 0, 0)));
+}

@@ -1,0 +1,155 @@
+//! The smallest call on which the answers differ, as far as one is found soon.
+
+use crate::call::{Call, Kind};
+use reference::file::{read_fields, Group};
+use reference::gen::file;
+use reference::term::Term::{Abs, App, Tau, Var};
+use reference::term::{abs, app, end_of_term, read_term, Term};
+use std::panic::set_hook;
+use std::time::{Duration, Instant};
+
+/// For so long a smaller call is sought.
+const SHRINK_TIME: Duration = Duration::from_secs(2);
+
+/// Prints both answers to the smallest call found on which they differ.
+pub fn report(call: &Call) {
+    // A panic of the reference was told of once; there may be many more.
+    set_hook(Box::new(|_| {}));
+    let small = shrink(call);
+    let reference = small.reference().map_or("a panic".into(), |answer| answer.to_string());
+    println!("DISAGREE on {small}\n  proved    {}\n  reference {reference}", small.proved());
+}
+
+/// Takes the first smaller call on which the answers still differ, again and again.
+fn shrink(call: &Call) -> Call {
+    let end = Instant::now() + SHRINK_TIME;
+    let differs = |smaller: &Call| Instant::now() < end && smaller.agreed().is_none();
+    let mut best = call.clone();
+    while let Some(smaller) = with_less(&best, differs).or_else(|| with_lower(&best, differs)) {
+        best = smaller;
+    }
+    best
+}
+
+/// The items without all, without each half, without each quarter, and so on.
+fn shorter<T: Clone>(items: &[T]) -> impl Iterator<Item = Vec<T>> + '_ {
+    // Even widths first: what is balanced in a term has an even size.
+    let half = |width: &usize| Some(if *width > 3 { width / 4 * 2 } else { width / 2 });
+    let widths = std::iter::successors(Some(items.len()), half).take_while(|width| *width > 0);
+    widths.flat_map(move |width| {
+        let starts = (0..items.len()).step_by(width);
+        starts.map(move |at| [&items[..at], &items[(at + width).min(items.len())..]].concat())
+    })
+}
+
+/// The bytes with less of them: without large parts; if they are a term, with a term inside it τ everywhere or there, a wagon
+/// dropped, or its K or U alone; without small parts.
+fn smaller_terms(bytes: &[u8]) -> impl Iterator<Item = Vec<u8>> + '_ {
+    let parts: [fn(&Term) -> Option<Term>; 3] = [
+        |term| (term.size() > 1).then_some(Tau),
+        |term| match term {
+            Abs(wagon) if !wagon.parts().1.uses(1) => Some(wagon.parts().1.without(1)),
+            App(wagon) => Some(wagon.parts().1.clone()),
+            _ => None,
+        },
+        |term| match term {
+            Abs(wagon) | App(wagon) => Some(wagon.parts().0.clone()),
+            _ => None,
+        },
+    ];
+    let terms = read_term(bytes).ok().into_iter().flat_map(move |term| {
+        (0..bytes.len()).flat_map(move |place| {
+            let term = term.clone();
+            parts.into_iter().filter_map(move |part| Some(rewritten(&term, place, part)?.bytes()))
+        })
+    });
+    let everywhere = (0..bytes.len()).filter_map(|at| Some(&bytes[at..at + end_of_term(&bytes[at..])?]));
+    let everywhere = everywhere.filter(|part| part.len() > 1).map(|part| with_tau_for(bytes, part));
+    let large = shorter(bytes).take(64);
+    large.chain(everywhere).chain(terms).chain(shorter(bytes).skip(64))
+}
+
+/// The bytes with 00 wherever the part stands.
+fn with_tau_for(mut bytes: &[u8], part: &[u8]) -> Vec<u8> {
+    let mut all = Vec::new();
+    while let Some(&byte) = bytes.first() {
+        let found = bytes.starts_with(part);
+        all.push(if found { 0 } else { byte });
+        bytes = &bytes[if found { part.len() } else { 1 }..];
+    }
+    all
+}
+
+/// The term with `part` of the term that begins at `place` in its stead.
+fn rewritten(term: &Term, place: usize, part: fn(&Term) -> Option<Term>) -> Option<Term> {
+    let (make, wagon): (fn(Term, Term) -> Term, _) = match term {
+        _ if place == 0 => return part(term),
+        Tau | Var(_) => return None,
+        App(wagon) => (app, wagon),
+        Abs(wagon) => (abs, wagon),
+    };
+    let (inner, rest) = wagon.parts();
+    let inside = place - 1;
+    if inside < inner.size() {
+        Some(make(rewritten(inner, inside, part)?, rest.clone()))
+    } else {
+        Some(make(inner.clone(), rewritten(rest, inside - inner.size(), part)?))
+    }
+}
+
+/// The call with less of its input or buffer; of a file, with fewer groups, steps or bytes of the term.
+fn with_less(call: &Call, differs: impl Fn(&Call) -> bool) -> Option<Call> {
+    let with_input = |input: Vec<u8>| Call { input, ..call.clone() };
+    if let (Kind::File | Kind::Check, Ok(fields)) = (call.kind, read_fields(&call.input)) {
+        let term = &call.input[fields.term.clone()];
+        let groups = &fields.groups;
+        let fewer = shorter(groups).map(|groups| file(term, &groups));
+        let less = smaller_terms(term).map(|term| file(&term, groups));
+        let steps = (0..groups.len()).flat_map(|i| {
+            let with = move |group: Group| {
+                let mut changed = groups.clone();
+                changed[i] = group;
+                file(term, &changed)
+            };
+            let left = shorter(&groups[i].left).map(move |left| with(Group { left, ..groups[i].clone() }));
+            let right = shorter(&groups[i].right).map(move |right| with(Group { right, ..groups[i].clone() }));
+            left.chain(right)
+        });
+        let found = fewer.chain(less).chain(steps).map(with_input).find(&differs);
+        if found.is_some() {
+            return found;
+        }
+    }
+    let inputs = smaller_terms(&call.input).flat_map(|input| {
+        // What was left out may have stood before the step's place.
+        let moved = match call.kind {
+            Kind::Step(kind, place) => Kind::Step(kind, place.saturating_sub((call.input.len() - input.len()) as u16)),
+            kind => kind,
+        };
+        [Call { kind: moved, ..with_input(input.clone()) }, with_input(input)]
+    });
+    let buffers = lower(call.lent()).map(|length| call.with_zeros(length));
+    buffers.chain(inputs).find(&differs)
+}
+
+/// The call with a smaller byte in its input, a smaller place of its step, or a buffer of 0.
+fn with_lower(call: &Call, differs: impl Fn(&Call) -> bool) -> Option<Call> {
+    let bytes = (0..call.input.len()).flat_map(|at| {
+        lower(call.input[at].into()).map(move |value| {
+            let mut changed = call.clone();
+            changed.input[at] = value as u8;
+            changed
+        })
+    });
+    let step = if let Kind::Step(kind, place) = call.kind { Some((kind, place)) } else { None };
+    let steps = step.into_iter().flat_map(|(kind, place)| {
+        lower(place.into()).map(move |place| Call { kind: Kind::Step(kind, place as u16), ..call.clone() })
+    });
+    let zeros = Some(call.with_zeros(call.lent())).filter(|zeros| zeros != call);
+    bytes.chain(steps).chain(zeros).find(differs)
+}
+
+/// Some values below the value.
+fn lower(value: usize) -> impl Iterator<Item = usize> {
+    [0, value / 2, value.saturating_sub(1)].into_iter().filter(move |smaller| *smaller < value)
+}

@@ -1,0 +1,94 @@
+//! All five calls on small inputs, one line for each. The C example prints the same lines.
+
+use bijterne::{apply_step, check, examine_file, examine_term, write_type, Written};
+use std::thread;
+
+/// [a:tau] [x:a] <x> [y:a] y, and its file: the term, then a group with no steps.
+const TERM: &[u8] = &[0xff, 0x00, 0xff, 0x01, 0xfe, 0x01, 0xff, 0x02, 0x01];
+const FILE: &[u8] = &[
+    0x01, 0x00, 0x09, 0xff, 0x00, 0xff, 0x01, 0xfe, 0x01, 0xff, 0x02, 0x01, // the term
+    0x02, 0x00, 0x00, 0x03, 0x00, 0x00, // no steps
+];
+
+/// [A:tau] [x:A] <A> [B:tau] <x> [y:B] y (E3 of the paper): an empty group, then a group with one right step.
+const E3: &[u8] = &[
+    0x01, 0x00, 0x0d, 0xff, 0x00, 0xff, 0x01, 0xfe, 0x02, 0xff, 0x00, 0xfe, 0x02, 0xff, 0x01, 0x01, // the term
+    0x02, 0x00, 0x00, 0x03, 0x00, 0x00, // no steps
+    0x02, 0x00, 0x00, 0x03, 0x00, 0x03, 0x01, 0x00, 0x00, // one right step
+];
+const E4: &[u8] = &[
+    0x01, 0x00, 0x0d, 0xff, 0x00, 0xff, 0x01, 0xfe, 0x02, 0xff, 0x00, 0xfe, 0x02, 0xff, 0x01, 0x01, // the term
+    0x02, 0x00, 0x00, 0x03, 0x00, 0x00, // no steps
+    0x02, 0x00, 0x00, 0x03, 0x00, 0x00, // no steps
+];
+
+/// [a:tau] [x:a] x (E1 of the paper), and tau alone.
+const E1: &[u8] = &[0xff, 0x00, 0xff, 0x01, 0x01];
+const TAU: &[u8] = &[0x00];
+
+/// A field that promises 2 bytes and holds 1.
+const CUT_SHORT: &[u8] = &[0x01, 0x00, 0x02, 0x00];
+
+fn bytes(s: &[u8]) -> String {
+    s.iter().map(|byte| format!(" {byte:02x}")).collect()
+}
+
+fn numbers(a: Written) -> String {
+    format!("{} {} {}", a.number, a.place, a.length)
+}
+
+fn show_check(what: &str, file: &[u8]) {
+    let a = check(file);
+    println!("{what}: {} {} {} {}", a.number, a.place, a.comparisons, a.degree);
+}
+
+fn show_type(what: &str, term: &[u8], length: usize) {
+    let mut out = vec![0xaa; length];
+    let answer = write_type(term, &mut out).map_or("none".into(), numbers);
+    println!("{what}: {answer},{}", bytes(&out));
+}
+
+/// The file of a term of abstractors, each inside the one before.
+fn deep(depth: usize) -> Vec<u8> {
+    let n = 2 * depth + 1;
+    let mut file = vec![0x01, (n >> 8) as u8, n as u8];
+    file.resize(3 + depth, 0xff);
+    file.resize(3 + n, 0x00);
+    file
+}
+
+fn main() {
+    let a = examine_term(TERM);
+    println!("examine term: {} {} {}", a.number, a.place, a.degree);
+
+    let a = examine_file(FILE);
+    println!("examine file: {} {},{}", a.number, a.place, bytes(a.term));
+
+    show_check("check", FILE);
+
+    // y becomes x; then <x> [y:a] has no use and goes, which leaves E1.
+    let mut local = [0xaa; 12];
+    let a = apply_step(TERM, 1, 8, &mut local);
+    println!("local step at 8: {},{}", numbers(a), bytes(&local));
+    let mut removed = [0xaa; 12];
+    let a = apply_step(&local[..a.length], 2, 4, &mut removed);
+    println!("then removal at 4: {},{}", numbers(a), bytes(&removed));
+
+    show_type("type of E1", E1, 8);
+    show_type("type of E1 into 4 bytes", E1, 4);
+    show_type("type of tau", TAU, 4);
+
+    let a = examine_file(CUT_SHORT);
+    println!("examine a file cut short: {} {} {}", a.number, a.place, a.term.len());
+
+    show_check("check without a group", &FILE[..FILE.len() - 6]);
+    show_check("check E3", E3);
+    show_check("check E3 without its step", E4);
+
+    // A check does not depend on the caller's stack.
+    let small = thread::Builder::new().stack_size(64 << 10).spawn(|| {
+        show_check("check 126 deep", &deep(126));
+        show_check("check 2047 deep", &deep(2047));
+    });
+    small.expect("a thread can be started").join().expect("both checks return");
+}

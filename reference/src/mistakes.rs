@@ -1,0 +1,79 @@
+//! Deliberate mistakes, to show that a comparison with this implementation
+//! catches them. Only a build with the feature `mistakes` can make one: the one
+//! that the environment variable MISTAKE names.
+
+/// A mistake, by its name.
+#[derive(Clone, Copy, PartialEq, Eq, Debug)]
+pub enum Mistake {
+    /// Passing an abstractor does not lift W.
+    WaitingNotLifted,
+    /// A copied abstractor takes from W though Y has some.
+    TakesFromWFirst,
+    /// 8 is found before 11.
+    OutgrownAfterTheRule,
+    /// Removal lowers no index.
+    RemovalKeepsIndices,
+    /// The place of 8 is the first of W.
+    PlaceOfTheFirst,
+    /// Lifting changes indices bound inside the moved term.
+    LiftsBoundIndices,
+    /// A state of 8,191 bytes is outgrown.
+    StateLimit,
+    /// A buffer that is too short gets the start of the result.
+    ShortBufferWritten,
+}
+
+use Mistake::*;
+
+pub const MISTAKES: [Mistake; 8] = [
+    WaitingNotLifted,
+    TakesFromWFirst,
+    OutgrownAfterTheRule,
+    RemovalKeepsIndices,
+    PlaceOfTheFirst,
+    LiftsBoundIndices,
+    StateLimit,
+    ShortBufferWritten,
+];
+
+#[cfg(not(feature = "mistakes"))]
+pub const fn made(_: Mistake) -> bool {
+    false
+}
+
+/// Does this work with no mistake.
+#[cfg(not(feature = "mistakes"))]
+pub fn set_aside<T>(work: impl FnOnce() -> T) -> T {
+    work()
+}
+
+#[cfg(feature = "mistakes")]
+pub use chosen::{made, set_aside};
+
+#[cfg(feature = "mistakes")]
+mod chosen {
+    use super::{Mistake, MISTAKES};
+    use std::cell::Cell;
+    use std::sync::OnceLock;
+
+    static CHOSEN: OnceLock<Option<Mistake>> = OnceLock::new();
+    thread_local! {
+        static ASIDE: Cell<bool> = const { Cell::new(false) };
+    }
+
+    pub fn made(mistake: Mistake) -> bool {
+        let chosen = CHOSEN.get_or_init(|| {
+            let name = std::env::var("MISTAKE").ok()?;
+            let found = MISTAKES.into_iter().find(|m| format!("{m:?}") == name);
+            Some(found.expect("MISTAKE names a mistake"))
+        });
+        *chosen == Some(mistake) && !ASIDE.with(Cell::get)
+    }
+
+    pub fn set_aside<T>(work: impl FnOnce() -> T) -> T {
+        ASIDE.with(|aside| aside.set(true));
+        let result = work();
+        ASIDE.with(|aside| aside.set(false));
+        result
+    }
+}

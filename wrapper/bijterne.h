@@ -1,0 +1,66 @@
+/* The five calls of the proved checker, for C99 and C++. Link with libexports.a (README, 'From C and Rust').
+ *
+ * A slice is a pointer and a length: s and n are the input, out and m the buffer that the caller lends. Each pointer is a
+ * valid pointer, also for length 0. out overlaps neither s nor answer, and answer does not overlap s.
+ *
+ * Any bytes may be handed in, and every call returns. No call relies on an earlier one and none keeps anything, so several
+ * threads may call at once. The input is never changed.
+ *
+ * In every answer, answer[0] is the number, 0 if accepted, and answer[1] is the place, 0 if accepted. At a refusal the buffer
+ * keeps every byte; after a result it keeps every byte past it.
+ */
+#ifndef BIJTERNE_H
+#define BIJTERNE_H
+
+#include <stddef.h>
+#include <stdint.h>
+
+#ifdef __cplusplus
+extern "C" {
+#endif
+
+/* The numbers, and what the place counts: in the file, or in the term. README, 'Refusals', says more. */
+enum bijterne_number {
+    BIJTERNE_ACCEPTED = 0,
+    BIJTERNE_CUT_SHORT = 1,           /* a field ends too early, or the file is empty; the field's head, in the file */
+    BIJTERNE_WRONG_FIELD = 2,         /* not the tag that is due, or steps not a multiple of 3 bytes; as for 1 */
+    BIJTERNE_NOT_ONE_TERM = 3,        /* not exactly one term; the first byte past it, or the length, in the term */
+    BIJTERNE_TOO_LONG = 4,            /* a file over 65,535 bytes or a term over 4,096; 0 */
+    BIJTERNE_BEYOND_SCOPE = 5,        /* an index beyond its scope; the variable, in the term */
+    BIJTERNE_TOO_MANY_IN_SCOPE = 6,   /* over 253 abstractors in scope; the first ff too many, in the term */
+    BIJTERNE_NO_TYPE = 7,             /* K has no type; the applicator, in the term */
+    BIJTERNE_STILL_WAITING = 8,       /* tau is met while something waits; the last that waits, in the term */
+    BIJTERNE_NO_GROUP_LEFT = 9,       /* the applicator, in the term */
+    BIJTERNE_STEP_NOT_POSSIBLE = 10,  /* the applicator, in the term; 0 for bijterne_apply_step */
+    BIJTERNE_OUTGROWN = 11,           /* over a limit on the way; a byte of the term; 0 for a written result */
+    BIJTERNE_BODIES_DIFFER = 12,      /* the applicator, in the term */
+    BIJTERNE_GROUPS_LEFT = 13,        /* the head of the first unused group, in the file */
+    BIJTERNE_BUFFER_TOO_SHORT = 14    /* the result is longer than the buffer; 0 */
+};
+
+/* Examines a bare term: numbers 3 to 6. answer: number, place, degree (0 if refused). */
+void bijterne_examine_term(const uint8_t *s, size_t n, uint64_t answer[3]);
+
+/* Examines a file: numbers 1 to 6. answer: number, place, length of the term (0 if refused). The term of an accepted file
+ * starts at s + 3. */
+void bijterne_examine_file(const uint8_t *s, size_t n, uint64_t answer[3]);
+
+/* Writes the type of a bare term to the start of out: numbers 3 to 6, 11 and 14. Returns 0, and then answer is: number, place,
+ * length written (0 if refused). Returns 1 if the term has degree 1 and so has no type ('none'); out and answer are then left
+ * as they were. */
+uint32_t bijterne_write_type(const uint8_t *s, size_t n, uint8_t *out, size_t m, uint64_t answer[3]);
+
+/* Applies one step to a bare term, with an empty frame, and writes the result to the start of out: numbers 3 to 6, 10, 11 and
+ * 14. kind is 1 (local) or 2 (removal); place counts in the term from 0. answer: number, place, length written (0 if
+ * refused). */
+void bijterne_apply_step(const uint8_t *s, size_t n, uint8_t kind, uint16_t place, uint8_t *out, size_t m, uint64_t answer[3]);
+
+/* Checks a file: numbers 1 to 13. answer: number, place, comparisons completed, degree of the term (0 for numbers 1 to 6).
+ * The deepest term needs 3 MiB of stack, and even a small file some 160 KiB; the other four calls need less than 32 KiB. */
+void bijterne_check(const uint8_t *s, size_t n, uint64_t answer[4]);
+
+#ifdef __cplusplus
+}
+#endif
+
+#endif

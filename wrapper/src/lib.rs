@@ -1,0 +1,119 @@
+//! The five calls of the proved checker, for Rust. No call relies on an earlier one, and every call returns.
+//!
+//! `number` is 0 if accepted, else the number of the refusal (README, 'Refusals'), and `place` says where. At a refusal a
+//! lent buffer keeps every byte; after a result it keeps every byte past it.
+
+use std::thread;
+
+mod raw {
+    extern "C" {
+        pub fn bijterne_examine_term(s: *const u8, n: usize, answer: *mut [u64; 3]);
+        pub fn bijterne_examine_file(s: *const u8, n: usize, answer: *mut [u64; 3]);
+        pub fn bijterne_write_type(s: *const u8, n: usize, out: *mut u8, m: usize, answer: *mut [u64; 3]) -> u32;
+        pub fn bijterne_apply_step(s: *const u8, n: usize, kind: u8, place: u16, out: *mut u8, m: usize, answer: *mut [u64; 3]);
+        pub fn bijterne_check(s: *const u8, n: usize, answer: *mut [u64; 4]);
+    }
+}
+
+#[derive(Clone, Copy, Debug, PartialEq, Eq)]
+pub struct TermAnswer {
+    pub number: u32,
+    pub place: usize,
+    /// 0 if refused.
+    pub degree: usize,
+}
+
+#[derive(Clone, Copy, Debug, PartialEq, Eq)]
+pub struct FileAnswer<'a> {
+    pub number: u32,
+    pub place: usize,
+    /// The term, a part of the file; empty if refused.
+    pub term: &'a [u8],
+}
+
+/// Of `write_type` and `apply_step`.
+#[derive(Clone, Copy, Debug, PartialEq, Eq)]
+pub struct Written {
+    pub number: u32,
+    pub place: usize,
+    /// How many bytes were written to the buffer's start; 0 if refused.
+    pub length: usize,
+}
+
+#[derive(Clone, Copy, Debug, PartialEq, Eq)]
+pub struct CheckAnswer {
+    pub number: u32,
+    pub place: usize,
+    /// Completed.
+    pub comparisons: usize,
+    /// Of the whole term; 0 for numbers 1 to 6.
+    pub degree: usize,
+}
+
+/// The stack that a check needs, whatever the file.
+pub const CHECK_STACK_BYTES: usize = 4 << 20;
+
+/// Examines a bare term: conditions 3 to 6.
+pub fn examine_term(term: &[u8]) -> TermAnswer {
+    let mut a = [0; 3];
+    // SAFETY: the pointers and lengths are those of live slices.
+    unsafe { raw::bijterne_examine_term(term.as_ptr(), term.len(), &mut a) };
+    TermAnswer { number: a[0] as u32, place: a[1] as usize, degree: a[2] as usize }
+}
+
+/// Examines a file: conditions 1 to 6.
+pub fn examine_file(file: &[u8]) -> FileAnswer<'_> {
+    let mut a = [0; 3];
+    // SAFETY: as above.
+    unsafe { raw::bijterne_examine_file(file.as_ptr(), file.len(), &mut a) };
+    let term = if a[0] == 0 { &file[3..3 + a[2] as usize] } else { &[] };
+    FileAnswer { number: a[0] as u32, place: a[1] as usize, term }
+}
+
+/// Writes the type of a bare term to the start of `out`; none for a term of degree 1.
+pub fn write_type(term: &[u8], out: &mut [u8]) -> Option<Written> {
+    let mut a = [0; 3];
+    // SAFETY: as above, and a `&mut` slice overlaps no other.
+    let none = unsafe { raw::bijterne_write_type(term.as_ptr(), term.len(), out.as_mut_ptr(), out.len(), &mut a) };
+    (none == 0).then(|| written(a))
+}
+
+/// Applies one step to a bare term, with an empty frame, and writes the result to the start of `out`.
+pub fn apply_step(term: &[u8], kind: u8, place: u16, out: &mut [u8]) -> Written {
+    let mut a = [0; 3];
+    // SAFETY: as above.
+    unsafe { raw::bijterne_apply_step(term.as_ptr(), term.len(), kind, place, out.as_mut_ptr(), out.len(), &mut a) };
+    written(a)
+}
+
+fn written(a: [u64; 3]) -> Written {
+    Written { number: a[0] as u32, place: a[1] as usize, length: a[2] as usize }
+}
+
+/// Checks a file, on a thread of its own, so that the caller's stack is no matter. To check many small files, `check_here` on
+/// one thread with a large stack is faster.
+///
+/// # Panics
+///
+/// If no thread can be started.
+pub fn check(file: &[u8]) -> CheckAnswer {
+    thread::scope(|scope| {
+        let work = || {
+            // SAFETY: this thread's stack is as large as any check needs.
+            unsafe { check_here(file) }
+        };
+        let thread = thread::Builder::new().stack_size(CHECK_STACK_BYTES).spawn_scoped(scope, work);
+        thread.expect("a thread can be started").join().expect("a check returns")
+    })
+}
+
+/// Checks a file on the caller's stack.
+///
+/// # Safety
+///
+/// The caller's stack has `CHECK_STACK_BYTES` left, or enough for how deep the term nests.
+pub unsafe fn check_here(file: &[u8]) -> CheckAnswer {
+    let mut a = [0; 4];
+    raw::bijterne_check(file.as_ptr(), file.len(), &mut a);
+    CheckAnswer { number: a[0] as u32, place: a[1] as usize, comparisons: a[2] as usize, degree: a[3] as usize }
+}
