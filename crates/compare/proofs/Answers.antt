@@ -23,7 +23,7 @@ use Rattle.frames.specs.Body.{Body, SomeBody}
 use Rattle.frames.proofs.Laws.{stored-depth, stored-unique}
 use Rattle.types.specs.declared.Typed.{Typed}
 use Rattle.types.specs.declared.Typed.the-variants.{Nothing, Outgrown, Length}
-use Rattle.types.specs.Typed.{TypedAs, Types}
+use Rattle.types.specs.Typed.{TypedAs, no-type, too-large, written, Types}
 use Rattle.types.proofs.Use.{nothing-typed, outgrown-typed, written-typed}
 use Rattle.verdict.specs.Bounds.{bodyFits}
 use Rattle.verdict.specs.Verdict.{Ground, number, Progress, Run, stopped, withGroup}
@@ -33,6 +33,15 @@ use Rattle.compare.specs.Sides.{TwoSides, SidesSay, sides-passed, sides-
 use Rattle.compare.specs.Compares.{Comparing, CompareSays, compare-passed, compare-stopped, Compares, Typing, ComparesType}
 use Rattle.compare.proofs.Bodies.{fits-limits}
 use Rattle.compare.proofs.Runs.{next-untyped, next-typed, no-groups, next-group, large-type, large-domain}
+
+-- A buffer keeps its length.
+pub typed-long : {w : List ℕ} {f : FrameRecord} {b b′ : List ℕ} {n : ℕ} {r : Typed} → Types w f b b′ n r → SomeBody w f b n → length b′ ≡ longestTerm
+typed-long {w} {f} {b} {b′} v s = go (v .all (s .frame) (s .term) (s .body))
+  where
+    go : {r : Typed} → TypedAs w f b b′ (s .frame) (s .term) r → length b′ ≡ longestTerm
+    go (no-type e k) = ap length k ∙ s .body .buffer
+    go (too-large e l k) = ap length k ∙ s .body .buffer
+    go (written e l m h) = h .buffer
 
 -- ---- What stops a run.
 says-stopped : {file : List ℕ} {at : ℕ} {r : Compared} {p : Progress} {x : Run} {g : Ground} → x ≡ stopped g p → r .number ≡ number g → 0 < r .number → CompareSays file at r p x

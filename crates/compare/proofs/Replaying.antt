@@ -2,6 +2,8 @@
 -- Assumes nothing.
 use Prim.Native.Nat.{ℕ, suc, _+_, _≤_, _<_}
 use mathlib.Core.Path.{_≡_, refl, ap, sym, subst, _∙_}
+use lib.ListN.{length}
+use Rattle.code.specs.Limits.{longestTerm}
 use mathlib.Core.Bool.{true, false}
 use mathlib.Core.List.{List, _∷_}
 use native.Mathlib.Omega.{arith}
@@ -53,7 +55,7 @@ replaying-start r s = record { range = r; some = s; all = λ R t h. record { ter
 module _ {file : List ℕ} {from to : ℕ} {w : List ℕ} {f : FrameRecord} {b₀ : List ℕ} {n₀ : ℕ} {b : List ℕ} {at n : ℕ} (v : Replaying file from to w f b₀ n₀ b at n) where
   pub replaying-end : to ≤ at → Replays file from to w f b₀ b n₀ (record { number = 0; len = n })
   unfolding replayFrom
-  replaying-end l = record { all = λ R t h. let c = v .all R t h in subst (ReplayedAs w f b R _) (sym (c .same ∙ rw (ends, no-step file to))) (as-form refl (c .body)) }
+  replaying-end l = record { buffer = v .some .body .buffer; all = λ R t h. let c = v .all R t h in subst (ReplayedAs w f b R _) (sym (c .same ∙ rw (ends, no-step file to))) (as-form refl (c .body)) }
     where
       ends : at ≡ to
       ends = omega (arith, v .range .ordered)
@@ -64,14 +66,20 @@ module _ {file : List ℕ} {from to : ℕ} {w : List ℕ} {f : FrameRecord} {b�
     onward {R} c = c .same ∙ ap (λ ss. replayFrom R (c .count) ss (c .term)) (next-step (v .range) l .0 ∙ ap (_∷ steps file (at + 3) to) (sym q))
 
     pub replaying-refused : x ≡ Refused → Replays file from to w f b₀ b′ n₀ (record { number = 10; len = 0 })
-    replaying-refused e = record { all = λ R t h. let c = v .all R t h in go c (subst (SteppedAs w f b b′ R s (c .term)) e (a .all R (c .term) (c .body))) }
+    replaying-refused e = record { buffer = kept (subst (SteppedAs w f b b′ (v .some .frame) s (v .some .term)) e (a .all (v .some .frame) (v .some .term) (v .some .body))); all = λ R t h. let c = v .all R t h in go c (subst (SteppedAs w f b b′ R s (c .term)) e (a .all R (c .term) (c .body))) }
       where
+        kept : {R : Frame} {u : Term} → SteppedAs w f b b′ R s u Refused → length b′ ≡ longestTerm
+        kept (step-refused d z) = ap length z ∙ v .some .body .buffer
+
         go : {R : Frame} {t : Term} (c : Carried file from to at w f b n R t) → SteppedAs w f b b′ R s (c .term) Refused → ReplayedAs w f b′ R (record { number = 10; len = 0 }) (replayFrom R 0 (steps file from to) t)
         go {R} c (step-refused d z) = subst (ReplayedAs w f b′ R _) (sym (onward c ∙ replay-refused R (c .count) s (steps file (at + 3) to) (c .term) d)) (as-refused refl)
 
     pub replaying-outgrown : x ≡ Outgrown → Replays file from to w f b₀ b′ n₀ (record { number = 11; len = 0 })
-    replaying-outgrown e = record { all = λ R t h. let c = v .all R t h in go c (subst (SteppedAs w f b b′ R s (c .term)) e (a .all R (c .term) (c .body))) }
+    replaying-outgrown e = record { buffer = kept (subst (SteppedAs w f b b′ (v .some .frame) s (v .some .term)) e (a .all (v .some .frame) (v .some .term) (v .some .body))); all = λ R t h. let c = v .all R t h in go c (subst (SteppedAs w f b b′ R s (c .term)) e (a .all R (c .term) (c .body))) }
       where
+        kept : {R : Frame} {u : Term} → SteppedAs w f b b′ R s u Outgrown → length b′ ≡ longestTerm
+        kept (step-outgrown d g z) = ap length z ∙ v .some .body .buffer
+
         go : {R : Frame} {t : Term} (c : Carried file from to at w f b n R t) → SteppedAs w f b b′ R s (c .term) Outgrown → ReplayedAs w f b′ R (record { number = 11; len = 0 }) (replayFrom R 0 (steps file from to) t)
         go {R} c (step-outgrown d g z) = subst (ReplayedAs w f b′ R _) (sym (onward c ∙ replay-outgrown R (c .count) s (steps file (at + 3) to) (c .term) d g)) (as-outgrown refl)
 

@@ -46,4 +46,5 @@ pub data ReplayedAs (w : List ℕ) (f : FrameRecord) (b : List ℕ) (R : Frame) 
 
 -- The steps that stand in the file from a place up to another, replayed on the body of n bytes in b; b′ is the buffer after.
 pub record Replays (file : List ℕ) (from to : ℕ) (w : List ℕ) (f : FrameRecord) (b b′ : List ℕ) (n : ℕ) (r : Replayed) : Type 0 where
+  pub buffer : length b′ ≡ longestTerm
   pub all : (R : Frame) (t : Term) → Body w f b n R t → ReplayedAs w f b′ R r (replayFrom R 0 (steps file from to) t)

@@ -2,6 +2,8 @@
 -- Assumes nothing.
 use Prim.Native.Nat.{ℕ, suc}
 use mathlib.Core.Path.{_≡_}
+use lib.ListN.{length}
+use Rattle.code.specs.Limits.{longestTerm}
 use mathlib.Core.Bool.{true}
 use mathlib.Core.List.{List}
 use Rattle.calculus.specs.Terms.{Term}
@@ -13,6 +15,11 @@ use Rattle.frames.specs.declared.FrameRecord.{FrameRecord}
 use Rattle.frames.specs.Body.{Body, SomeBody}
 use Rattle.verdict.specs.Bounds.{bodyFits}
 use Rattle.verdict.specs.Verdict.{Ground, number, Progress, Run, passed, stopped, compareWith}
+
+-- The two buffers that a comparison is lent. What they hold does not matter.
+pub record Buffers (a b : List ℕ) : Type 0 where
+  pub left-long : length a ≡ longestTerm
+  pub right-long : length b ≡ longestTerm
 
 -- The group's steps stand in the file, and a body stands in each buffer.
 pub record TwoSides (file : List ℕ) (g : GroupSpan) (w : List ℕ) (f : FrameRecord) (a : List ℕ) (n : ℕ) (b : List ℕ) (k : ℕ) : Type 0 where

@@ -5,7 +5,7 @@ ghost use Rattle.code.specs.Limits.{mostAbstractors};
 ghost use Rattle.fields.specs.Fields.{StepRange};
 ghost use Rattle.frames.specs.Body.{SomeBody};
 ghost use Rattle.compare.specs.Replays.{SomePart, Loadable, Loaded, PartFits, Replays};
-ghost use Rattle.compare.specs.Sides.{TwoSides, Sides};
+ghost use Rattle.compare.specs.Sides.{Buffers, TwoSides, Sides};
 ghost use Rattle.compare.specs.Compares.{Comparing, Compares, Typing, ComparesType};
 use fields::GroupSpan;
 use fields::group_at;
@@ -102,7 +102,7 @@ fn compare_sides(
     k: usize,
 ) -> u32
     requires { ⌜ TwoSides (now file) g (now work) f (now left) n (now right) k ⌝ }
-    ensures { λ r. ⌜ Sides (now (file .entry)) g (now (work .entry)) f (now (left .entry)) n (now (right .entry)) k r ⌝ }
+    ensures { λ r. ⌜ Sides (now (file .entry)) g (now (work .entry)) f (now (left .entry)) n (now (right .entry)) k r × Buffers (now (left .exit)) (now (right .exit)) ⌝ }
 {
     let l = replay(file, g.left, g.middle, left, n, work, f);
     if l.number != 0 {
@@ -131,9 +131,10 @@ fn compare_type(
     e: usize,
     left: &mut [u8; 4096],
     n: usize,
+    right: &mut [u8; 4096],
 ) -> Compared
-    requires { ⌜ Typing (now file) (now work) at f m e (now left) n ⌝ }
-    ensures { λ r. ⌜ ComparesType (now (file .entry)) (now (work .entry)) at f m e (now (left .entry)) n r ⌝ }
+    requires { ⌜ Typing (now file) (now work) at f m e (now left) n × Buffers (now left) (now right) ⌝ }
+    ensures { λ r. ⌜ ComparesType (now (file .entry)) (now (work .entry)) at f m e (now (left .entry)) n r × Buffers (now (left .exit)) (now (right .exit)) ⌝ }
 {
     if at >= file.len() {
         return Compared {
@@ -147,17 +148,17 @@ fn compare_type(
             next: at,
         };
     }
-    let mut right: [u8; 4096] = [0; 4096];
-    let k = load(work, m + 1, e, &mut right);
+    let k = load(work, m + 1, e, right);
     let g = group_at(file, at);
-    let number = compare_sides(file, g, work, f, left, n, &mut right, k);
+    let number = compare_sides(file, g, work, f, left, n, right, k);
     Compared {
         number: number,
         next: g.next,
     }
 }
 
-// The comparison of ⟨K⟩[U], which stands in the work array from f.end up to e, with the group at `at`: K ends at m.
+// The comparison of ⟨K⟩[U], which stands in the work array from f.end up to e, with the group at `at`: K ends at m. The two
+// bodies are carried in the lent buffers.
 pub fn compare(
     file: &[u8],
     at: usize,
@@ -165,13 +166,14 @@ pub fn compare(
     f: FrameRecord,
     m: usize,
     e: usize,
+    left: &mut [u8; 4096],
+    right: &mut [u8; 4096],
 ) -> Compared
-    requires { ⌜ Comparing (now file) (now work) at f m e ⌝ }
-    ensures { λ r. ⌜ Compares (now (file .entry)) (now (work .entry)) at f m e r ⌝ }
+    requires { ⌜ Comparing (now file) (now work) at f m e × Buffers (now left) (now right) ⌝ }
+    ensures { λ r. ⌜ Compares (now (file .entry)) (now (work .entry)) at f m e r × Buffers (now (left .exit)) (now (right .exit)) ⌝ }
 {
-    let mut left: [u8; 4096] = [0; 4096];
-    let k = load(work, f.end + 1, m, &mut left);
-    let typed = type_in_place(&mut left, k, work, f);
+    let k = load(work, f.end + 1, m, left);
+    let typed = type_in_place(left, k, work, f);
     match typed {
         Typed::Nothing => Compared {
             number: 7,
@@ -189,6 +191,6 @@ pub fn compare(
                 next: at,
             }
         }
-        Typed::Length(n) => compare_type(file, at, work, f, m, e, &mut left, n),
+        Typed::Length(n) => compare_type(file, at, work, f, m, e, left, n, right),
     }
 }

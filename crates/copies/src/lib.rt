@@ -6,6 +6,7 @@ ghost use lib.ListN.{getD};
 ghost use Rattle.calculus.specs.Terms.{liftIndex};
 ghost use Rattle.code.specs.Code.{Tabled};
 ghost use Rattle.frames.specs.Stored.{recordOf};
+ghost use Rattle.compare.specs.Sides.{Buffers};
 ghost use Rattle.copies.specs.Contracts.{nearStop, nearGo, withFrame, stopping, goingOn, AbsReady, Ready, Stated, Ruled, Settles, Turns, Copies};
 use compare::compare;
 use frames::FrameRecord;
@@ -321,19 +322,21 @@ fn abs_wait(
     work: &mut [u8; 8192],
     ws: &[u16; 28672],
     ys: &[u16; 28672],
+    left: &mut [u8; 4096],
+    right: &mut [u8; 4096],
     base: usize,
     place: usize,
     s: Copying,
     f: FrameRecord,
     m: usize,
 ) -> Turning
-    requires { ⌜ AbsReady (now file) (now t) (now work) (now ws) (now ys) base s f m × (s .ytop ≤ 0) × (s .top ≡ base → ⊥) ⌝ }
-    ensures { λ r. ⌜ Ruled (now (file .entry)) (now (t .entry)) (now (work .entry)) (now (work .exit)) (now (ws .entry)) (now (ys .entry)) (now (ys .entry)) base place s f r ⌝ }
+    requires { ⌜ AbsReady (now file) (now t) (now work) (now ws) (now ys) base s f m × (s .ytop ≤ 0) × (s .top ≡ base → ⊥) × Buffers (now left) (now right) ⌝ }
+    ensures { λ r. ⌜ Ruled (now (file .entry)) (now (t .entry)) (now (work .entry)) (now (work .exit)) (now (ws .entry)) (now (ys .entry)) (now (ys .entry)) base place s f r × Buffers (now (left .exit)) (now (right .exit)) ⌝ }
 {
     let to = f.end;
     let a = put_wait(t, work, ws, base, s.top, f.len, to);
     let b = put_seen(work, 0xff, s.from + 1, m, a, s.shift, s.cut, 0);
-    let q = compare(file, s.next, work, f, a, b);
+    let q = compare(file, s.next, work, f, a, b, left, right);
     if q.number != 0 {
         let v = slot_at(ws, s.top - 1);
         return stop(q.number, v.place, s, f);
@@ -360,13 +363,15 @@ fn abs_turn(
     work: &mut [u8; 8192],
     ws: &[u16; 28672],
     ys: &[u16; 28672],
+    left: &mut [u8; 4096],
+    right: &mut [u8; 4096],
     base: usize,
     place: usize,
     s: Copying,
     f: FrameRecord,
 ) -> Turning
-    requires { ⌜ Tabled (now tb) × Ready (now file) (now t) (now work) (now ws) (now ys) base s f × (0xfe ≤ getD (now work) (s .from) 0) × (getD (now work) (s .from) 0 ≡ 0xfe → ⊥) ⌝ }
-    ensures { λ r. ⌜ Ruled (now (file .entry)) (now (t .entry)) (now (work .entry)) (now (work .exit)) (now (ws .entry)) (now (ys .entry)) (now (ys .entry)) base place s f r ⌝ }
+    requires { ⌜ Tabled (now tb) × Ready (now file) (now t) (now work) (now ws) (now ys) base s f × (0xfe ≤ getD (now work) (s .from) 0) × (getD (now work) (s .from) 0 ≡ 0xfe → ⊥) × Buffers (now left) (now right) ⌝ }
+    ensures { λ r. ⌜ Ruled (now (file .entry)) (now (t .entry)) (now (work .entry)) (now (work .exit)) (now (ws .entry)) (now (ys .entry)) (now (ys .entry)) base place s f r × Buffers (now (left .exit)) (now (right .exit)) ⌝ }
 {
     let m = end_of(tb, work, s.from + 1);
     if 0 < s.ytop {
@@ -375,7 +380,7 @@ fn abs_turn(
     if s.top == base {
         return abs_alone(file, t, work, ws, ys, base, place, s, f, m);
     }
-    abs_wait(file, t, work, ws, ys, base, place, s, f, m)
+    abs_wait(file, t, work, ws, ys, left, right, base, place, s, f, m)
 }
 
 // A turn that leaves the frame as it is: (vi), (viii) or (ix).
@@ -473,20 +478,22 @@ fn turn(
     work: &mut [u8; 8192],
     ws: &[u16; 28672],
     ys: &mut [u16; 28672],
+    left: &mut [u8; 4096],
+    right: &mut [u8; 4096],
     base: usize,
     place: usize,
     s: Copying,
     f: FrameRecord,
 ) -> Turning
-    requires { ⌜ Tabled (now tb) × Stated (now file) (now t) (now work) (now ws) (now ys) base s f ⌝ }
-    ensures { λ r. ⌜ Turns (now (file .entry)) (now (t .entry)) (now (work .entry)) (now (work .exit)) (now (ws .entry)) (now (ys .entry)) (now (ys .exit)) base place s f r ⌝ }
+    requires { ⌜ Tabled (now tb) × Stated (now file) (now t) (now work) (now ws) (now ys) base s f × Buffers (now left) (now right) ⌝ }
+    ensures { λ r. ⌜ Turns (now (file .entry)) (now (t .entry)) (now (work .entry)) (now (work .exit)) (now (ws .entry)) (now (ys .entry)) (now (ys .exit)) base place s f r × Buffers (now (left .exit)) (now (right .exit)) ⌝ }
 {
     let r = settle(file, tb, t, work, ws, ys, base, place, s, f);
     if !r.going {
         return framed(r, f);
     }
     let a = r.state;
-    abs_turn(file, tb, t, work, ws, ys, base, place, a, f)
+    abs_turn(file, tb, t, work, ws, ys, left, right, base, place, a, f)
 }
 
 // Copied text, from a state on.
@@ -497,18 +504,20 @@ pub fn copied(
     work: &mut [u8; 8192],
     ws: &[u16; 28672],
     ys: &mut [u16; 28672],
+    left: &mut [u8; 4096],
+    right: &mut [u8; 4096],
     base: usize,
     place: usize,
     s: Copying,
     f: FrameRecord,
 ) -> Walked
-    requires { ⌜ Tabled (now tb) × Stated (now file) (now t) (now work) (now ws) (now ys) base s f ⌝ }
-    ensures { λ r. ⌜ Copies (now (file .entry)) (now (t .entry)) (now (work .entry)) (now (work .exit)) (now (ws .entry)) (now (ys .entry)) (now (ys .exit)) base place s f r ⌝ }
+    requires { ⌜ Tabled (now tb) × Stated (now file) (now t) (now work) (now ws) (now ys) base s f × Buffers (now left) (now right) ⌝ }
+    ensures { λ r. ⌜ Copies (now (file .entry)) (now (t .entry)) (now (work .entry)) (now (work .exit)) (now (ws .entry)) (now (ys .entry)) (now (ys .exit)) base place s f r × Buffers (now (left .exit)) (now (right .exit)) ⌝ }
 {
     let mut z = s;
     let mut g = f;
     loop {
-        let r = turn(file, tb, t, work, ws, ys, base, place, z, g);
+        let r = turn(file, tb, t, work, ws, ys, left, right, base, place, z, g);
         if !r.going {
             return r.out;
         }

@@ -3,6 +3,7 @@ ghost use mathlib.Core.Path.{_≡_};
 ghost use Prim.Native.Nat.{_+_, _-_, _≤_, _<_};
 ghost use lib.ListN.{length, getD};
 ghost use Rattle.code.specs.Code.{Tabled};
+ghost use Rattle.compare.specs.Sides.{Buffers};
 ghost use Rattle.walk.specs.State.{Sized};
 ghost use Rattle.walk.specs.Contracts.{OwnStated, OwnReady, InnerEnd, AbsHere, Passes, Ends, Checks, SizedFrom, TermAt, FigureAt, WholeTerm, Walkable, WalkAnswer};
 use code::table;
@@ -110,6 +111,8 @@ fn pass_pair(
     work: &mut [u8; 8192],
     ws: &[u16; 28672],
     ys: &[u16; 28672],
+    left: &mut [u8; 4096],
+    right: &mut [u8; 4096],
     base: usize,
     top: usize,
     at: usize,
@@ -117,13 +120,13 @@ fn pass_pair(
     out: Walked,
     m: usize,
 ) -> Passing
-    requires { ⌜ OwnReady (now file) (now t) (now work) (now ws) (now ys) base top at f (out .next) (out .comparisons) × InnerEnd (now t) (now scopes) at m × AbsHere (now t) at × (out .number ≡ 0) × (top ≡ base → ⊥) ⌝ }
-    ensures { λ r. ⌜ Passes (now (file .entry)) (now (t .entry)) (now (work .entry)) (now (work .exit)) (now (ws .entry)) (now (ws .entry)) (now (ys .entry)) base top at f (out .next) (out .comparisons) r ⌝ }
+    requires { ⌜ OwnReady (now file) (now t) (now work) (now ws) (now ys) base top at f (out .next) (out .comparisons) × InnerEnd (now t) (now scopes) at m × AbsHere (now t) at × (out .number ≡ 0) × (top ≡ base → ⊥) × Buffers (now left) (now right) ⌝ }
+    ensures { λ r. ⌜ Passes (now (file .entry)) (now (t .entry)) (now (work .entry)) (now (work .exit)) (now (ws .entry)) (now (ws .entry)) (now (ys .entry)) base top at f (out .next) (out .comparisons) r × Buffers (now (left .exit)) (now (right .exit)) ⌝ }
 {
     let to = f.end;
     let a = put_wait(t, work, ws, base, top, f.len, to);
     let b = put_own(t, work, 0xff, at + 1, m, a, 0, 0, 0);
-    let q = compare(file, out.next, work, f, a, b);
+    let q = compare(file, out.next, work, f, a, b, left, right);
     if q.number != 0 {
         let v = slot_at(ws, top - 1);
         let stop = Walked {
@@ -163,14 +166,16 @@ fn pass(
     work: &mut [u8; 8192],
     ws: &mut [u16; 28672],
     ys: &[u16; 28672],
+    left: &mut [u8; 4096],
+    right: &mut [u8; 4096],
     base: usize,
     top: usize,
     at: usize,
     f: FrameRecord,
     out: Walked,
 ) -> Passing
-    requires { ⌜ OwnReady (now file) (now t) (now work) (now ws) (now ys) base top at f (out .next) (out .comparisons) × Sized (now t) (now sizes) (now scopes) × (0xfe ≤ getD (now t) at 0) × (out .number ≡ 0) ⌝ }
-    ensures { λ r. ⌜ Passes (now (file .entry)) (now (t .entry)) (now (work .entry)) (now (work .exit)) (now (ws .entry)) (now (ws .exit)) (now (ys .entry)) base top at f (out .next) (out .comparisons) r ⌝ }
+    requires { ⌜ OwnReady (now file) (now t) (now work) (now ws) (now ys) base top at f (out .next) (out .comparisons) × Sized (now t) (now sizes) (now scopes) × (0xfe ≤ getD (now t) at 0) × (out .number ≡ 0) × Buffers (now left) (now right) ⌝ }
+    ensures { λ r. ⌜ Passes (now (file .entry)) (now (t .entry)) (now (work .entry)) (now (work .exit)) (now (ws .entry)) (now (ws .exit)) (now (ys .entry)) base top at f (out .next) (out .comparisons) r × Buffers (now (left .exit)) (now (right .exit)) ⌝ }
 {
     let m = at + 1 + wide16(sizes[at + 1]);
     if t[at] == 0xfe {
@@ -179,7 +184,22 @@ fn pass(
     if top == base {
         return pass_alone(file, t, scopes, work, ws, ys, base, top, at, f, out, m);
     }
-    pass_pair(file, t, scopes, work, ws, ys, base, top, at, f, out, m)
+    pass_pair(
+        file,
+        t,
+        scopes,
+        work,
+        ws,
+        ys,
+        left,
+        right,
+        base,
+        top,
+        at,
+        f,
+        out,
+        m,
+    )
 }
 
 fn halt(number: u32, place: usize, comparisons: usize, next: usize) -> Walked
@@ -201,6 +221,8 @@ fn variable(
     work: &mut [u8; 8192],
     ws: &[u16; 28672],
     ys: &mut [u16; 28672],
+    left: &mut [u8; 4096],
+    right: &mut [u8; 4096],
     base: usize,
     top: usize,
     at: usize,
@@ -208,8 +230,8 @@ fn variable(
     next: usize,
     count: usize,
 ) -> Walked
-    requires { ⌜ Tabled (now tb) × OwnReady (now file) (now t) (now work) (now ws) (now ys) base top at f next count × (getD (now t) at 0 ≡ 0 → ⊥) × (getD (now t) at 0 < 0xfe) ⌝ }
-    ensures { λ r. ⌜ Ends (now (file .entry)) (now (t .entry)) (now (work .entry)) (now (work .exit)) (now (ws .entry)) (now (ys .entry)) (now (ys .exit)) base top at f next count r ⌝ }
+    requires { ⌜ Tabled (now tb) × OwnReady (now file) (now t) (now work) (now ws) (now ys) base top at f next count × (getD (now t) at 0 ≡ 0 → ⊥) × (getD (now t) at 0 < 0xfe) × Buffers (now left) (now right) ⌝ }
+    ensures { λ r. ⌜ Ends (now (file .entry)) (now (t .entry)) (now (work .entry)) (now (work .exit)) (now (ws .entry)) (now (ys .entry)) (now (ys .exit)) base top at f next count r × Buffers (now (left .exit)) (now (right .exit)) ⌝ }
 {
     let k = wide(t[at]);
     let e = entry_at_by(tb, work, &f.starts, f.len, f.end, k);
@@ -226,7 +248,7 @@ fn variable(
         next,
         comparisons: count,
     };
-    copied(file, tb, t, work, ws, ys, base, at, s, f)
+    copied(file, tb, t, work, ws, ys, left, right, base, at, s, f)
 }
 
 // The end of the term's own text: τ or a variable at `at`.
@@ -237,6 +259,8 @@ fn last(
     work: &mut [u8; 8192],
     ws: &[u16; 28672],
     ys: &mut [u16; 28672],
+    left: &mut [u8; 4096],
+    right: &mut [u8; 4096],
     base: usize,
     top: usize,
     at: usize,
@@ -244,14 +268,29 @@ fn last(
     next: usize,
     count: usize,
 ) -> Walked
-    requires { ⌜ Tabled (now tb) × OwnStated (now file) (now t) (now work) (now ws) (now ys) base top at f next count × (getD (now t) at 0 < 0xfe) ⌝ }
-    ensures { λ r. ⌜ Checks (now (file .entry)) (now (t .entry)) (now (work .entry)) (now (work .exit)) (now (ws .entry)) (now (ws .entry)) (now (ys .entry)) (now (ys .exit)) base top at f next count r ⌝ }
+    requires { ⌜ Tabled (now tb) × OwnStated (now file) (now t) (now work) (now ws) (now ys) base top at f next count × (getD (now t) at 0 < 0xfe) × Buffers (now left) (now right) ⌝ }
+    ensures { λ r. ⌜ Checks (now (file .entry)) (now (t .entry)) (now (work .entry)) (now (work .exit)) (now (ws .entry)) (now (ws .entry)) (now (ys .entry)) (now (ys .exit)) base top at f next count r × Buffers (now (left .exit)) (now (right .exit)) ⌝ }
 {
     if !fits(ws, ys, base, top, 0, f.end, f.len, 1, 0) {
         return halt(11, at, count, next);
     }
     if t[at] != 0 {
-        return variable(file, tb, t, work, ws, ys, base, top, at, f, next, count);
+        return variable(
+            file,
+            tb,
+            t,
+            work,
+            ws,
+            ys,
+            left,
+            right,
+            base,
+            top,
+            at,
+            f,
+            next,
+            count,
+        );
     }
     if top == base {
         return halt(0, 0, count, next);
@@ -270,6 +309,8 @@ fn term(
     work: &mut [u8; 8192],
     ws: &mut [u16; 28672],
     ys: &mut [u16; 28672],
+    left: &mut [u8; 4096],
+    right: &mut [u8; 4096],
     base: usize,
     top: usize,
     at: usize,
@@ -277,8 +318,8 @@ fn term(
     next: usize,
     count: usize,
 ) -> Walked
-    requires { ⌜ Tabled (now tb) × Sized (now t) (now sizes) (now scopes) × OwnStated (now file) (now t) (now work) (now ws) (now ys) base top at fr next count ⌝ }
-    ensures { λ r. ⌜ Checks (now (file .entry)) (now (t .entry)) (now (work .entry)) (now (work .exit)) (now (ws .entry)) (now (ws .exit)) (now (ys .entry)) (now (ys .exit)) base top at fr next count r ⌝ }
+    requires { ⌜ Tabled (now tb) × Sized (now t) (now sizes) (now scopes) × OwnStated (now file) (now t) (now work) (now ws) (now ys) base top at fr next count × Buffers (now left) (now right) ⌝ }
+    ensures { λ r. ⌜ Checks (now (file .entry)) (now (t .entry)) (now (work .entry)) (now (work .exit)) (now (ws .entry)) (now (ws .exit)) (now (ys .entry)) (now (ys .exit)) base top at fr next count r × Buffers (now (left .exit)) (now (right .exit)) ⌝ }
 {
     let mut i = at;
     let mut w = top;
@@ -289,11 +330,42 @@ fn term(
         if !fits(ws, ys, base, w, 0, f.end, f.len, wide16(sizes[i]), 0) {
             return halt(11, i, k, n);
         }
-        let r = inside(file, tb, t, sizes, scopes, work, ws, ys, w, i + 1, f, n, k);
+        let r = inside(
+            file,
+            tb,
+            t,
+            sizes,
+            scopes,
+            work,
+            ws,
+            ys,
+            left,
+            right,
+            w,
+            i + 1,
+            f,
+            n,
+            k,
+        );
         if r.number != 0 {
             return r;
         }
-        let q = pass(file, t, sizes, scopes, work, ws, ys, base, w, i, f, r);
+        let q = pass(
+            file,
+            t,
+            sizes,
+            scopes,
+            work,
+            ws,
+            ys,
+            left,
+            right,
+            base,
+            w,
+            i,
+            f,
+            r,
+        );
         let o = q.out;
         if o.number != 0 {
             return o;
@@ -305,7 +377,7 @@ fn term(
         w = q.top;
         i = q.at;
     }
-    last(file, tb, t, work, ws, ys, base, w, i, f, n, k)
+    last(file, tb, t, work, ws, ys, left, right, base, w, i, f, n, k)
 }
 
 // The inside of an applicator or an abstractor: nothing waits.
@@ -318,14 +390,16 @@ fn inside(
     work: &mut [u8; 8192],
     ws: &mut [u16; 28672],
     ys: &mut [u16; 28672],
+    left: &mut [u8; 4096],
+    right: &mut [u8; 4096],
     top: usize,
     at: usize,
     fr: FrameRecord,
     next: usize,
     count: usize,
 ) -> Walked
-    requires { ⌜ Tabled (now tb) × Sized (now t) (now sizes) (now scopes) × OwnStated (now file) (now t) (now work) (now ws) (now ys) top top at fr next count ⌝ }
-    ensures { λ r. ⌜ Checks (now (file .entry)) (now (t .entry)) (now (work .entry)) (now (work .exit)) (now (ws .entry)) (now (ws .exit)) (now (ys .entry)) (now (ys .exit)) top top at fr next count r ⌝ }
+    requires { ⌜ Tabled (now tb) × Sized (now t) (now sizes) (now scopes) × OwnStated (now file) (now t) (now work) (now ws) (now ys) top top at fr next count × Buffers (now left) (now right) ⌝ }
+    ensures { λ r. ⌜ Checks (now (file .entry)) (now (t .entry)) (now (work .entry)) (now (work .exit)) (now (ws .entry)) (now (ws .exit)) (now (ys .entry)) (now (ys .exit)) top top at fr next count r × Buffers (now (left .exit)) (now (right .exit)) ⌝ }
 {
     term(
         file,
@@ -336,6 +410,8 @@ fn inside(
         work,
         ws,
         ys,
+        left,
+        right,
         top,
         top,
         at,
@@ -394,6 +470,8 @@ pub fn walk_term(file: &[u8], t: &[u8], at: usize) -> Walked
     let mut work: [u8; 8192] = [0; 8192];
     let mut ws: [u16; 28672] = [0; 28672];
     let mut ys: [u16; 28672] = [0; 28672];
+    let mut left: [u8; 4096] = [0; 4096];
+    let mut right: [u8; 4096] = [0; 4096];
     let mut sizes: [u16; 4096] = [0; 4096];
     let mut scopes: [u16; 4096] = [0; 4096];
     let tb = table();
@@ -408,6 +486,8 @@ pub fn walk_term(file: &[u8], t: &[u8], at: usize) -> Walked
         &mut work,
         &mut ws,
         &mut ys,
+        &mut left,
+        &mut right,
         0,
         0,
         0,

@@ -10,25 +10,25 @@ replay-requires : tie.Need-replay-requires
 replay-requires c κs = (c .before .before .pre .left-steps, c .before .before .pre .left-body)
 
 returns : tie.Need-returns
-returns c = left-stops (c .before .before .replay .ensures) (c .if1 .taken)
+returns c = (left-stops (c .before .before .replay .ensures) (c .if1 .taken), record { left-long = c .before .before .replay .ensures .buffer; right-long = c .before .before .before .before .before .pre .right-body .body .buffer })
 
 replay-requires-2 : tie.Need-replay-requires-2
 replay-requires-2 c κs = (c .before .before .before .before .before .before .pre .right-steps, c .before .before .before .before .before .before .pre .right-body)
 
 returns-2 : tie.Need-returns-2
-returns-2 c = right-stops (c .before .before .before .before .before .before .replay .ensures) (c .before .before .before .before .if1 .left) (c .before .before .replay2 .ensures) (c .if2 .taken)
+returns-2 c = (right-stops (c .before .before .before .before .before .before .replay .ensures) (c .before .before .before .before .if1 .left) (c .before .before .replay2 .ensures) (c .if2 .taken), record { left-long = c .before .before .before .before .before .before .replay .ensures .buffer; right-long = c .before .before .replay2 .ensures .buffer })
 
 returns-3 : tie.Need-returns-3
-returns-3 c = lengths-differ (c .before .before .before .before .before .before .before .before .before .replay .ensures) (c .before .before .before .before .before .before .before .if1 .left) (c .before .before .before .before .before .replay2 .ensures) (c .before .before .before .if2 .left) (c .if3 .taken)
+returns-3 c = (lengths-differ (c .before .before .before .before .before .before .before .before .before .replay .ensures) (c .before .before .before .before .before .before .before .if1 .left) (c .before .before .before .before .before .replay2 .ensures) (c .before .before .before .if2 .left) (c .if3 .taken), record { left-long = c .before .before .before .before .before .before .before .before .before .replay .ensures .buffer; right-long = c .before .before .before .before .before .replay2 .ensures .buffer })
 
 equal-requires : tie.Need-equal-requires
 equal-requires c κs = (form-room (c .before .before .before .before .before .before .before .before .before .before .before .before .before .replay .ensures) (c .before .before .before .before .before .before .before .before .before .before .before .before .before .before .before .before .pre .left-body) (c .before .before .before .before .before .before .before .before .before .before .before .if1 .left), omega (arith, form-room (c .before .before .before .before .before .before .before .before .before .replay2 .ensures) (c .before .before .before .before .before .before .before .before .before .before .before .before .before .before .before .before .pre .right-body) (c .before .before .before .before .before .before .before .if2 .left), c .before .before .before .before .if3 .left))
 
 returns-4 : tie.Need-returns-4
-returns-4 c = bytes-differ (c .before .before .before .before .before .before .before .before .before .before .before .before .before .before .before .replay .ensures) (c .before .before .before .before .before .before .before .before .before .before .before .before .before .if1 .left) (c .before .before .before .before .before .before .before .before .before .before .before .replay2 .ensures) (c .before .before .before .before .before .before .before .before .before .if2 .left) (c .before .before .before .before .before .before .if3 .left) (c .before .equal .ensures) (not-true _ (c .if4 .taken))
+returns-4 c = (bytes-differ (c .before .before .before .before .before .before .before .before .before .before .before .before .before .before .before .replay .ensures) (c .before .before .before .before .before .before .before .before .before .before .before .before .before .if1 .left) (c .before .before .before .before .before .before .before .before .before .before .before .replay2 .ensures) (c .before .before .before .before .before .before .before .before .before .if2 .left) (c .before .before .before .before .before .before .if3 .left) (c .before .equal .ensures) (not-true _ (c .if4 .taken)), record { left-long = c .before .before .before .before .before .before .before .before .before .before .before .before .before .before .before .replay .ensures .buffer; right-long = c .before .before .before .before .before .before .before .before .before .before .before .replay2 .ensures .buffer })
 
 returns-5 : tie.Need-returns-5
-returns-5 c = bytes-agree (c .before .before .before .before .before .before .before .before .before .before .before .before .before .before .before .replay .ensures) (c .before .before .before .before .before .before .before .before .before .before .before .before .before .if1 .left) (c .before .before .before .before .before .before .before .before .before .before .before .replay2 .ensures) (c .before .before .before .before .before .before .before .before .before .if2 .left) (c .before .before .before .before .before .before .if3 .left) (c .before .equal .ensures) (not-false _ (c .if4 .left))
+returns-5 c = (bytes-agree (c .before .before .before .before .before .before .before .before .before .before .before .before .before .before .before .replay .ensures) (c .before .before .before .before .before .before .before .before .before .before .before .before .before .if1 .left) (c .before .before .before .before .before .before .before .before .before .before .before .replay2 .ensures) (c .before .before .before .before .before .before .before .before .before .if2 .left) (c .before .before .before .before .before .before .if3 .left) (c .before .equal .ensures) (not-false _ (c .if4 .left)), record { left-long = c .before .before .before .before .before .before .before .before .before .before .before .before .before .before .before .replay .ensures .buffer; right-long = c .before .before .before .before .before .before .before .before .before .before .before .replay2 .ensures .buffer })
 
 pub compare-sides-spec : {M : Type 1} → statement M
 compare-sides-spec =

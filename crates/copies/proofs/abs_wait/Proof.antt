@@ -27,37 +27,37 @@ put-seen-requires : tie.Need-put-seen-requires
 put-seen-requires c κs = let z = c .before .before .before .before .before .before .pre .0 .ready .at in let d = wait-domain (c .before .before .before .before .before .before .pre .0 .ready .at) (c .before .before .before .before .before .before .pre .0 .ready .room) (c .before .before .before .before .before .before .pre .0 .high) (c .before .before .before .before .before .before .pre .0 .no-app) (c .before .before .before .before .before .before .pre .0 .ends) (c .before .before .before .before .before .before .pre .1) (c .before .before .before .before .before .before .pre .2) (c .before .before .put-wait .ensures) in let b = abs-bounds (c .before .before .before .before .before .before .pre .0 .ready .at) (c .before .before .before .before .before .before .pre .0 .ready .room) (c .before .before .before .before .before .before .pre .0 .high) (c .before .before .before .before .before .before .pre .0 .no-app) (c .before .before .before .before .before .before .pre .0 .ends) in (omega (arith, d .0, b .1, b .2), omega (arith, z .cut-bound, z .stored .few), d .1)
 
 compare-requires : tie.Need-compare-requires
-compare-requires c κs = comparing (c .before .before .before .before .before .before .before .before .pre .0 .ready .at) (c .before .before .before .before .before .before .before .before .pre .0 .ready .room) (c .before .before .before .before .before .before .before .before .pre .0 .high) (c .before .before .before .before .before .before .before .before .pre .0 .no-app) (c .before .before .before .before .before .before .before .before .pre .0 .ends) (c .before .before .before .before .before .before .before .before .pre .1) (c .before .before .before .before .before .before .before .before .pre .2) (c .before .before .before .before .put-wait .ensures) (c .before .put-seen .ensures)
+compare-requires c κs = (comparing (c .before .before .before .before .before .before .before .before .before .before .pre .0 .ready .at) (c .before .before .before .before .before .before .before .before .before .before .pre .0 .ready .room) (c .before .before .before .before .before .before .before .before .before .before .pre .0 .high) (c .before .before .before .before .before .before .before .before .before .before .pre .0 .no-app) (c .before .before .before .before .before .before .before .before .before .before .pre .0 .ends) (c .before .before .before .before .before .before .before .before .before .before .pre .1) (c .before .before .before .before .before .before .before .before .before .before .pre .2) (c .before .before .before .before .before .before .put-wait .ensures) (c .before .before .before .put-seen .ensures), c .before .before .before .before .before .before .before .before .before .before .pre .3)
 
 sub-slot-at : tie.Need-sub-slot-at
-sub-slot-at c = omega (arith, wait-above (c .before .before .before .before .before .before .before .before .before .before .before .before .pre .0 .ready .at) (c .before .before .before .before .before .before .before .before .before .before .before .before .pre .0 .ready .room) (c .before .before .before .before .before .before .before .before .before .before .before .before .pre .0 .high) (c .before .before .before .before .before .before .before .before .before .before .before .before .pre .0 .no-app) (c .before .before .before .before .before .before .before .before .before .before .before .before .pre .0 .ends) (c .before .before .before .before .before .before .before .before .before .before .before .before .pre .1) (c .before .before .before .before .before .before .before .before .before .before .before .before .pre .2))
+sub-slot-at c = omega (arith, wait-above (c .before .before .before .before .before .before .before .before .before .before .before .before .before .before .pre .0 .ready .at) (c .before .before .before .before .before .before .before .before .before .before .before .before .before .before .pre .0 .ready .room) (c .before .before .before .before .before .before .before .before .before .before .before .before .before .before .pre .0 .high) (c .before .before .before .before .before .before .before .before .before .before .before .before .before .before .pre .0 .no-app) (c .before .before .before .before .before .before .before .before .before .before .before .before .before .before .pre .0 .ends) (c .before .before .before .before .before .before .before .before .before .before .before .before .before .before .pre .1) (c .before .before .before .before .before .before .before .before .before .before .before .before .before .before .pre .2))
 
 slot-at-requires : tie.Need-slot-at-requires
-slot-at-requires c κs = omega (arith, wait-above (c .before .before .before .before .before .before .before .before .before .before .before .before .pre .0 .ready .at) (c .before .before .before .before .before .before .before .before .before .before .before .before .pre .0 .ready .room) (c .before .before .before .before .before .before .before .before .before .before .before .before .pre .0 .high) (c .before .before .before .before .before .before .before .before .before .before .before .before .pre .0 .no-app) (c .before .before .before .before .before .before .before .before .before .before .before .before .pre .0 .ends) (c .before .before .before .before .before .before .before .before .before .before .before .before .pre .1) (c .before .before .before .before .before .before .before .before .before .before .before .before .pre .2), c .before .before .before .before .before .before .before .before .before .before .before .before .pre .0 .ready .at .tops)
+slot-at-requires c κs = omega (arith, wait-above (c .before .before .before .before .before .before .before .before .before .before .before .before .before .before .pre .0 .ready .at) (c .before .before .before .before .before .before .before .before .before .before .before .before .before .before .pre .0 .ready .room) (c .before .before .before .before .before .before .before .before .before .before .before .before .before .before .pre .0 .high) (c .before .before .before .before .before .before .before .before .before .before .before .before .before .before .pre .0 .no-app) (c .before .before .before .before .before .before .before .before .before .before .before .before .before .before .pre .0 .ends) (c .before .before .before .before .before .before .before .before .before .before .before .before .before .before .pre .1) (c .before .before .before .before .before .before .before .before .before .before .before .before .before .before .pre .2), c .before .before .before .before .before .before .before .before .before .before .before .before .before .before .pre .0 .ready .at .tops)
 
 stop-requires : tie.Need-stop-requires
 stop-requires c κs = search needs
 
 returns : tie.Need-returns
-returns c = rw (c .stop .ensures) (wait-ruled-stop (c .before .before .before .before .before .before .before .before .before .before .before .before .before .before .pre .0) _ (c .before .before .before .before .before .before .before .before .before .before .before .before .before .before .pre .1) (c .before .before .before .before .before .before .before .before .before .before .before .before .before .before .pre .2) (c .before .before .before .before .before .before .before .before .before .before .put-wait .ensures) (c .before .before .before .before .before .before .before .put-seen .ensures) (c .before .before .before .before .before .compare .ensures) (c .before .before .before .if1 .taken) (c .before .slot-at .ensures .0))
+returns c = (rw (c .stop .ensures) (wait-ruled-stop (c .before .before .before .before .before .before .before .before .before .before .before .before .before .before .before .before .pre .0) _ (c .before .before .before .before .before .before .before .before .before .before .before .before .before .before .before .before .pre .1) (c .before .before .before .before .before .before .before .before .before .before .before .before .before .before .before .before .pre .2) (c .before .before .before .before .before .before .before .before .before .before .before .before .put-wait .ensures) (c .before .before .before .before .before .before .before .before .before .put-seen .ensures) (c .before .before .before .before .before .compare .ensures .0) (c .before .before .before .if1 .taken) (c .before .slot-at .ensures .0)), c .before .before .before .before .before .compare .ensures .1)
 
 push-requires : tie.Need-push-requires
-push-requires c κs = (fewer-entries (c .before .before .before .before .before .before .before .before .before .before .before .pre .0 .ready .at) (c .before .before .before .before .before .before .before .before .before .before .before .pre .0 .ready .room) (c .before .before .before .before .before .before .before .before .before .before .before .pre .0 .high) (c .before .before .before .before .before .before .before .before .before .before .before .pre .0 .no-app), c .before .before .before .before .before .before .before .before .before .before .before .pre .0 .ready .at .stored .inside)
+push-requires c κs = (fewer-entries (c .before .before .before .before .before .before .before .before .before .before .before .before .before .pre .0 .ready .at) (c .before .before .before .before .before .before .before .before .before .before .before .before .before .pre .0 .ready .room) (c .before .before .before .before .before .before .before .before .before .before .before .before .before .pre .0 .high) (c .before .before .before .before .before .before .before .before .before .before .before .before .before .pre .0 .no-app), c .before .before .before .before .before .before .before .before .before .before .before .before .before .pre .0 .ready .at .stored .inside)
 
-sub-t20 : tie.Need-sub-t20
-sub-t20 c = omega (arith, wait-above (c .before .before .before .before .before .before .before .before .before .before .before .before .before .pre .0 .ready .at) (c .before .before .before .before .before .before .before .before .before .before .before .before .before .pre .0 .ready .room) (c .before .before .before .before .before .before .before .before .before .before .before .before .before .pre .0 .high) (c .before .before .before .before .before .before .before .before .before .before .before .before .before .pre .0 .no-app) (c .before .before .before .before .before .before .before .before .before .before .before .before .before .pre .0 .ends) (c .before .before .before .before .before .before .before .before .before .before .before .before .before .pre .1) (c .before .before .before .before .before .before .before .before .before .before .before .before .before .pre .2))
+sub-t22 : tie.Need-sub-t22
+sub-t22 c = omega (arith, wait-above (c .before .before .before .before .before .before .before .before .before .before .before .before .before .before .before .pre .0 .ready .at) (c .before .before .before .before .before .before .before .before .before .before .before .before .before .before .before .pre .0 .ready .room) (c .before .before .before .before .before .before .before .before .before .before .before .before .before .before .before .pre .0 .high) (c .before .before .before .before .before .before .before .before .before .before .before .before .before .before .before .pre .0 .no-app) (c .before .before .before .before .before .before .before .before .before .before .before .before .before .before .before .pre .0 .ends) (c .before .before .before .before .before .before .before .before .before .before .before .before .before .before .before .pre .1) (c .before .before .before .before .before .before .before .before .before .before .before .before .before .before .before .pre .2))
 
-add-t24 : tie.Need-add-t24
-add-t24 c = let z = c .before .before .before .before .before .before .before .before .before .before .before .before .before .before .pre .0 .ready .at in omega (arith, z .cut-bound, z .stored .few)
+add-t28 : tie.Need-add-t28
+add-t28 c = let z = c .before .before .before .before .before .before .before .before .before .before .before .before .before .before .before .before .pre .0 .ready .at in omega (arith, z .cut-bound, z .stored .few)
 
-add-t25 : tie.Need-add-t25
-add-t25 c = let z = c .before .before .before .before .before .before .before .before .before .before .before .before .before .before .before .pre .0 .ready .at .reached in omega (arith, z .few, reached-inside z)
+add-t29 : tie.Need-add-t29
+add-t29 c = let z = c .before .before .before .before .before .before .before .before .before .before .before .before .before .before .before .before .before .pre .0 .ready .at .reached in omega (arith, z .few, reached-inside z)
 
 go-requires : tie.Need-go-requires
 go-requires c κs = search needs
 
 returns-2 : tie.Need-returns-2
-returns-2 c = rw (c .go .ensures, c .before .before .before .before .push .ensures) (wait-ruled-go (c .before .before .before .before .before .before .before .before .before .before .before .before .before .before .before .before .pre .0) _ (c .before .before .before .before .before .before .before .before .before .before .before .before .before .before .before .before .pre .1) (c .before .before .before .before .before .before .before .before .before .before .before .before .before .before .before .before .pre .2) (c .before .before .before .before .before .before .before .before .before .before .before .before .put-wait .ensures) (c .before .before .before .before .before .before .before .before .before .put-seen .ensures) (c .before .before .before .before .before .before .before .compare .ensures) (c .before .before .before .before .before .if1 .left))
+returns-2 c = (rw (c .go .ensures, c .before .before .before .before .push .ensures) (wait-ruled-go (c .before .before .before .before .before .before .before .before .before .before .before .before .before .before .before .before .before .before .pre .0) _ (c .before .before .before .before .before .before .before .before .before .before .before .before .before .before .before .before .before .before .pre .1) (c .before .before .before .before .before .before .before .before .before .before .before .before .before .before .before .before .before .before .pre .2) (c .before .before .before .before .before .before .before .before .before .before .before .before .before .before .put-wait .ensures) (c .before .before .before .before .before .before .before .before .before .before .before .put-seen .ensures) (c .before .before .before .before .before .before .before .compare .ensures .0) (c .before .before .before .before .before .if1 .left)), c .before .before .before .before .before .before .before .compare .ensures .1)
 
 pub abs-wait-spec : {M : Type 1} → statement M
 abs-wait-spec =
@@ -72,8 +72,8 @@ abs-wait-spec =
     stop-requires
     returns
     push-requires
-    sub-t20
-    add-t24
-    add-t25
+    sub-t22
+    add-t28
+    add-t29
     go-requires
     returns-2)

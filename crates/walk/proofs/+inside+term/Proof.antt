@@ -7,6 +7,7 @@ use Rattle.waiting.proofs.Texts.{text-in}
 use Rattle.copies.proofs.Loop.{is-false, is-true}
 use Rattle.walk.proofs.Walk.{at-bound, base-bound, checks-outgrown, known-size, inside-stated, inside-stops, pass-ready, pass-stop-checks, next-stated, rest-checks, Goes}
 use Prim.Native.Nat.{ℕ, _<_}
+use Rattle.compare.specs.Sides.{Buffers}
 use borrow.Fn.Kinds.{In}
 use borrow.Fn.PlainCycle.{Measures, is, falls, and}
 use Rattle.walk.proofs.inside.Reads as inside
@@ -23,37 +24,37 @@ use Rattle.waiting.proofs.wide16.Reads as wide16-reads
 use Rattle.walk.proofs.+inside+term.{statement}
 use Rattle.walk.proofs.+inside+term.Tie.{close}
 
-abbrev μ-inside : Measures 8 inside-kinds.ps ℕ
-μ-inside κs a = (4096 - a .1 .1 .1 .1 .1 .1 .1 .1 .1 .0) + (4096 - a .1 .1 .1 .1 .1 .1 .1 .1 .1 .0) + 1
+abbrev μ-inside : Measures 10 inside-kinds.ps ℕ
+μ-inside κs a = (4096 - a .1 .1 .1 .1 .1 .1 .1 .1 .1 .1 .1 .0) + (4096 - a .1 .1 .1 .1 .1 .1 .1 .1 .1 .1 .1 .0) + 1
 
-abbrev μ-term : Measures 8 term-kinds.ps ℕ
-μ-term κs a = (4096 - a .1 .1 .1 .1 .1 .1 .1 .1 .1 .1 .0) + (4096 - a .1 .1 .1 .1 .1 .1 .1 .1 .1 .1 .0)
+abbrev μ-term : Measures 10 term-kinds.ps ℕ
+μ-term κs a = (4096 - a .1 .1 .1 .1 .1 .1 .1 .1 .1 .1 .1 .1 .0) + (4096 - a .1 .1 .1 .1 .1 .1 .1 .1 .1 .1 .1 .1 .0)
 
-abbrev inside-at : ℕ → In 8 inside-kinds.ps
-inside-at t = and 8 inside-kinds.ps (is 8 inside-kinds.ps μ-inside t) inside.Pre
+abbrev inside-at : ℕ → In 10 inside-kinds.ps
+inside-at t = and 10 inside-kinds.ps (is 10 inside-kinds.ps μ-inside t) inside.Pre
 
-abbrev inside-below : ℕ → In 8 inside-kinds.ps
-inside-below t = and 8 inside-kinds.ps (falls 8 inside-kinds.ps _<_ μ-inside t) inside.Pre
+abbrev inside-below : ℕ → In 10 inside-kinds.ps
+inside-below t = and 10 inside-kinds.ps (falls 10 inside-kinds.ps _<_ μ-inside t) inside.Pre
 
-abbrev term-at : ℕ → In 8 term-kinds.ps
-term-at t = and 8 term-kinds.ps (is 8 term-kinds.ps μ-term t) term.Pre
+abbrev term-at : ℕ → In 10 term-kinds.ps
+term-at t = and 10 term-kinds.ps (is 10 term-kinds.ps μ-term t) term.Pre
 
-abbrev term-below : ℕ → In 8 term-kinds.ps
-term-below t = and 8 term-kinds.ps (falls 8 term-kinds.ps _<_ μ-term t) term.Pre
+abbrev term-below : ℕ → In 10 term-kinds.ps
+term-below t = and 10 term-kinds.ps (falls 10 term-kinds.ps _<_ μ-term t) term.Pre
 
 inside-term-requires :
     (t : ℕ) → inside-lts.Need-term-requires (term-below t, term.Post) (inside-at t) inside.Post
-inside-term-requires t c κs = (omega arith, c .before .before .before .before .before .pre .1)
+inside-term-requires t c κs = (omega arith, c .before .before .before .before .before .before .before .pre .1)
 
 inside-returns :
     (t : ℕ) → inside-lts.Need-returns (term-below t, term.Post) (inside-at t) inside.Post
 inside-returns t c = c .term .ensures
 
 abbrev term-Inv-loop : term-lts.InvT-loop
-term-Inv-loop file tb t sizes scopes work₀ ws₀ ys₀ base top at next count i₀ w₀ f₀ n₀ k₀ work ws ys i w f n k = Goes file t work₀ ws₀ ys₀ base w₀ i₀ f₀ n₀ k₀ work ws ys w i f n k
+term-Inv-loop file tb t sizes scopes work₀ ws₀ ys₀ left₀ right₀ base top at next count i₀ w₀ f₀ n₀ k₀ work ws ys left right i w f n k = Goes file t work₀ ws₀ ys₀ base w₀ i₀ f₀ n₀ k₀ work ws ys w i f n k × Buffers left right
 
 abbrev term-μ-loop : term-lts.MeasureT-loop
-term-μ-loop file tb t sizes scopes work₀ ws₀ ys₀ base top at next count i₀ w₀ f₀ n₀ k₀ work ws ys i w f n k = 4096 - i
+term-μ-loop file tb t sizes scopes work₀ ws₀ ys₀ left₀ right₀ base top at next count i₀ w₀ f₀ n₀ k₀ work ws ys left right i w f n k = 4096 - i
 
 term-loop-holds : (t : ℕ) → term-lts.Need-loop-holds (
   wide16-reads.Asked,
@@ -69,7 +70,7 @@ term-loop-holds : (t : ℕ) → term-lts.Need-loop-holds (
   last-reads.Asked,
   last-reads.Learnt,
 ) (term-at t) term.Post term-Inv-loop term-μ-loop
-term-loop-holds t c = record { now = c .before .before .pre .1 .2; later = omega arith; rest = λ w′ ws′ ys′ r x. x }
+term-loop-holds t c = (record { now = c .before .before .pre .1 .2; later = omega arith; rest = λ w′ ws′ ys′ r x. x }, c .before .before .pre .1 .3)
 
 term-shared-slice-read-if1 : (t : ℕ) → term-lts.Need-shared-slice-read-if1 (
   wide16-reads.Asked,
@@ -85,7 +86,7 @@ term-shared-slice-read-if1 : (t : ℕ) → term-lts.Need-shared-slice-read-if1 (
   last-reads.Asked,
   last-reads.Learnt,
 ) (term-at t) term.Post term-Inv-loop term-μ-loop
-term-shared-slice-read-if1 t c = text-in (c .before .loop .inv .now .here .stands)
+term-shared-slice-read-if1 t c = text-in (c .before .loop .inv .0 .now .here .stands)
 
 term-mul-wide16 : (t : ℕ) → term-lts.Need-mul-wide16 (
   wide16-reads.Asked,
@@ -101,7 +102,7 @@ term-mul-wide16 : (t : ℕ) → term-lts.Need-mul-wide16 (
   last-reads.Asked,
   last-reads.Learnt,
 ) (term-at t) term.Post term-Inv-loop term-μ-loop
-term-mul-wide16 t c = omega (arith, at-bound (c .before .before .before .before .loop .inv .now))
+term-mul-wide16 t c = omega (arith, at-bound (c .before .before .before .before .loop .inv .0 .now))
 
 term-element-copy-out-wide16 : (t : ℕ) → term-lts.Need-element-copy-out-wide16 (
   wide16-reads.Asked,
@@ -117,7 +118,7 @@ term-element-copy-out-wide16 : (t : ℕ) → term-lts.Need-element-copy-out-wide
   last-reads.Asked,
   last-reads.Learnt,
 ) (term-at t) term.Post term-Inv-loop term-μ-loop
-term-element-copy-out-wide16 t c = omega (arith, at-bound (c .before .before .before .before .loop .inv .now))
+term-element-copy-out-wide16 t c = omega (arith, at-bound (c .before .before .before .before .loop .inv .0 .now))
 
 term-wide16-requires : (t : ℕ) → term-lts.Need-wide16-requires (
   wide16-reads.Asked,
@@ -149,7 +150,7 @@ term-fits-requires : (t : ℕ) → term-lts.Need-fits-requires (
   last-reads.Asked,
   last-reads.Learnt,
 ) (term-at t) term.Post term-Inv-loop term-μ-loop
-term-fits-requires t c κs = let z = c .before .before .before .before .before .before .loop .inv .now .here in (base-bound (c .before .before .before .before .before .before .loop .inv .now), omega (arith, at-bound (c .before .before .before .before .before .before .loop .inv .now), z .tops), omega arith, omega (arith, z .stored .inside), omega (arith, z .stored .few), c .wide16 .ensures .1, omega arith)
+term-fits-requires t c κs = let z = c .before .before .before .before .before .before .loop .inv .0 .now .here in (base-bound (c .before .before .before .before .before .before .loop .inv .0 .now), omega (arith, at-bound (c .before .before .before .before .before .before .loop .inv .0 .now), z .tops), omega arith, omega (arith, z .stored .inside), omega (arith, z .stored .few), c .wide16 .ensures .1, omega arith)
 
 term-halt-requires : (t : ℕ) → term-lts.Need-halt-requires (
   wide16-reads.Asked,
@@ -181,7 +182,7 @@ term-returns : (t : ℕ) → term-lts.Need-returns (
   last-reads.Asked,
   last-reads.Learnt,
 ) (term-at t) term.Post term-Inv-loop term-μ-loop
-term-returns t c = c .before .before .before .before .before .before .before .before .before .loop .inv .rest _ _ _ _ (rw (c .halt .ensures) (checks-outgrown (c .before .before .fits2 .ensures) (known-size (c .before .before .before .before .before .before .before .before .before .before .before .before .pre .1 .1) (c .before .before .before .wide16 .ensures .0)) (is-false _ (c .before .if2 .taken)) (c .before .before .before .before .before .before .before .before .before .loop .inv .now)))
+term-returns t c = (c .before .before .before .before .before .before .before .before .before .loop .inv .0 .rest _ _ _ _ (rw (c .halt .ensures) (checks-outgrown (c .before .before .fits2 .ensures) (known-size (c .before .before .before .before .before .before .before .before .before .before .before .before .pre .1 .1) (c .before .before .before .wide16 .ensures .0)) (is-false _ (c .before .if2 .taken)) (c .before .before .before .before .before .before .before .before .before .loop .inv .0 .now))), c .before .before .before .before .before .before .before .before .before .loop .inv .1)
 
 term-add-inside : (t : ℕ) → term-lts.Need-add-inside (
   wide16-reads.Asked,
@@ -197,7 +198,7 @@ term-add-inside : (t : ℕ) → term-lts.Need-add-inside (
   last-reads.Asked,
   last-reads.Learnt,
 ) (term-at t) term.Post term-Inv-loop term-μ-loop
-term-add-inside t c = omega (arith, at-bound (c .before .before .before .before .before .before .before .before .before .before .before .loop .inv .now))
+term-add-inside t c = omega (arith, at-bound (c .before .before .before .before .before .before .before .before .before .before .before .before .before .loop .inv .0 .now))
 
 term-inside-requires : (t : ℕ) → term-lts.Need-inside-requires (
   wide16-reads.Asked,
@@ -213,7 +214,7 @@ term-inside-requires : (t : ℕ) → term-lts.Need-inside-requires (
   last-reads.Asked,
   last-reads.Learnt,
 ) (term-at t) term.Post term-Inv-loop term-μ-loop
-term-inside-requires t c κs = (omega (arith, at-bound (c .before .before .before .before .before .before .before .before .before .before .before .loop .inv .now), c .before .before .before .before .before .before .before .before .before .before .before .loop .inv .later), (c .before .before .before .before .before .before .before .before .before .before .before .before .before .before .pre .1 .0, c .before .before .before .before .before .before .before .before .before .before .before .before .before .before .pre .1 .1, inside-stated (c .before .before .before .before .before .before .before .before .before .if1 .taken) (c .before .before .before .before .before .before .before .before .before .before .before .loop .inv .now)))
+term-inside-requires t c κs = (omega (arith, at-bound (c .before .before .before .before .before .before .before .before .before .before .before .before .before .loop .inv .0 .now), c .before .before .before .before .before .before .before .before .before .before .before .before .before .loop .inv .0 .later), (c .before .before .before .before .before .before .before .before .before .before .before .before .before .before .before .before .pre .1 .0, c .before .before .before .before .before .before .before .before .before .before .before .before .before .before .before .before .pre .1 .1, inside-stated (c .before .before .before .before .before .before .before .before .before .before .before .if1 .taken) (c .before .before .before .before .before .before .before .before .before .before .before .before .before .loop .inv .0 .now), c .before .before .before .before .before .before .before .before .before .before .before .before .before .loop .inv .1))
 
 term-returns-2 : (t : ℕ) → term-lts.Need-returns-2 (
   wide16-reads.Asked,
@@ -229,7 +230,7 @@ term-returns-2 : (t : ℕ) → term-lts.Need-returns-2 (
   last-reads.Asked,
   last-reads.Learnt,
 ) (term-at t) term.Post term-Inv-loop term-μ-loop
-term-returns-2 t c = c .before .before .before .before .before .before .before .before .before .before .before .before .before .before .loop .inv .rest _ _ _ _ (inside-stops (c .before .before .before .before .before .before .before .before .before .before .before .before .if1 .taken) (c .before .before .before .before .before .before .before .fits2 .ensures) (known-size (c .before .before .before .before .before .before .before .before .before .before .before .before .before .before .before .before .before .pre .1 .1) (c .before .before .before .before .before .before .before .before .wide16 .ensures .0)) (is-true _ (c .before .before .before .before .before .before .if2 .left)) (c .before .before .inside .ensures) (c .before .before .before .before .before .before .before .before .before .before .before .before .before .before .loop .inv .now) (c .if3 .taken))
+term-returns-2 t c = (c .before .before .before .before .before .before .before .before .before .before .before .before .before .before .before .before .loop .inv .0 .rest _ _ _ _ (inside-stops (c .before .before .before .before .before .before .before .before .before .before .before .before .before .before .if1 .taken) (c .before .before .before .before .before .before .before .before .before .fits2 .ensures) (known-size (c .before .before .before .before .before .before .before .before .before .before .before .before .before .before .before .before .before .before .before .pre .1 .1) (c .before .before .before .before .before .before .before .before .before .before .wide16 .ensures .0)) (is-true _ (c .before .before .before .before .before .before .before .before .if2 .left)) (c .before .before .inside .ensures .0) (c .before .before .before .before .before .before .before .before .before .before .before .before .before .before .before .before .loop .inv .0 .now) (c .if3 .taken)), c .before .before .inside .ensures .1)
 
 term-pass-requires : (t : ℕ) → term-lts.Need-pass-requires (
   wide16-reads.Asked,
@@ -245,7 +246,7 @@ term-pass-requires : (t : ℕ) → term-lts.Need-pass-requires (
   last-reads.Asked,
   last-reads.Learnt,
 ) (term-at t) term.Post term-Inv-loop term-μ-loop
-term-pass-requires t c κs = (pass-ready (c .before .before .before .before .before .before .before .before .before .before .before .before .before .before .before .if1 .taken) (c .before .before .before .before .before .before .before .before .before .before .fits2 .ensures) (known-size (c .before .before .before .before .before .before .before .before .before .before .before .before .before .before .before .before .before .before .before .before .pre .1 .1) (c .before .before .before .before .before .before .before .before .before .before .before .wide16 .ensures .0)) (is-true _ (c .before .before .before .before .before .before .before .before .before .if2 .left)) (c .before .before .before .before .before .inside .ensures) (c .before .before .before .if3 .left) (c .before .before .before .before .before .before .before .before .before .before .before .before .before .before .before .before .before .loop .inv .now), c .before .before .before .before .before .before .before .before .before .before .before .before .before .before .before .before .before .before .before .before .pre .1 .1, c .before .before .before .before .before .before .before .before .before .before .before .before .before .before .before .if1 .taken, c .before .before .before .if3 .left)
+term-pass-requires t c κs = (pass-ready (c .before .before .before .before .before .before .before .before .before .before .before .before .before .before .before .before .before .before .before .if1 .taken) (c .before .before .before .before .before .before .before .before .before .before .before .before .before .before .fits2 .ensures) (known-size (c .before .before .before .before .before .before .before .before .before .before .before .before .before .before .before .before .before .before .before .before .before .before .before .before .pre .1 .1) (c .before .before .before .before .before .before .before .before .before .before .before .before .before .before .before .wide16 .ensures .0)) (is-true _ (c .before .before .before .before .before .before .before .before .before .before .before .before .before .if2 .left)) (c .before .before .before .before .before .before .before .inside .ensures .0) (c .before .before .before .before .before .if3 .left) (c .before .before .before .before .before .before .before .before .before .before .before .before .before .before .before .before .before .before .before .before .before .loop .inv .0 .now), c .before .before .before .before .before .before .before .before .before .before .before .before .before .before .before .before .before .before .before .before .before .before .before .before .pre .1 .1, c .before .before .before .before .before .before .before .before .before .before .before .before .before .before .before .before .before .before .before .if1 .taken, c .before .before .before .before .before .if3 .left, c .before .before .before .before .before .before .before .inside .ensures .1)
 
 term-returns-3 : (t : ℕ) → term-lts.Need-returns-3 (
   wide16-reads.Asked,
@@ -261,7 +262,7 @@ term-returns-3 : (t : ℕ) → term-lts.Need-returns-3 (
   last-reads.Asked,
   last-reads.Learnt,
 ) (term-at t) term.Post term-Inv-loop term-μ-loop
-term-returns-3 t c = c .before .before .before .before .before .before .before .before .before .before .before .before .before .before .before .before .before .before .before .before .before .loop .inv .rest _ _ _ _ (pass-stop-checks (c .before .before .before .before .before .before .before .before .before .before .before .before .before .before .before .before .before .before .before .if1 .taken) (c .before .before .before .before .before .before .before .before .before .before .before .before .before .before .fits2 .ensures) (known-size (c .before .before .before .before .before .before .before .before .before .before .before .before .before .before .before .before .before .before .before .before .before .before .before .before .pre .1 .1) (c .before .before .before .before .before .before .before .before .before .before .before .before .before .before .before .wide16 .ensures .0)) (is-true _ (c .before .before .before .before .before .before .before .before .before .before .before .before .before .if2 .left)) (c .before .before .before .before .before .before .before .before .before .inside .ensures) (c .before .before .before .before .before .before .before .if3 .left) (c .before .before .before .pass .ensures) (c .before .before .before .before .before .before .before .before .before .before .before .before .before .before .before .before .before .before .before .before .before .loop .inv .now) (c .if4 .taken))
+term-returns-3 t c = (c .before .before .before .before .before .before .before .before .before .before .before .before .before .before .before .before .before .before .before .before .before .before .before .before .before .loop .inv .0 .rest _ _ _ _ (pass-stop-checks (c .before .before .before .before .before .before .before .before .before .before .before .before .before .before .before .before .before .before .before .before .before .before .before .if1 .taken) (c .before .before .before .before .before .before .before .before .before .before .before .before .before .before .before .before .before .before .fits2 .ensures) (known-size (c .before .before .before .before .before .before .before .before .before .before .before .before .before .before .before .before .before .before .before .before .before .before .before .before .before .before .before .before .pre .1 .1) (c .before .before .before .before .before .before .before .before .before .before .before .before .before .before .before .before .before .before .before .wide16 .ensures .0)) (is-true _ (c .before .before .before .before .before .before .before .before .before .before .before .before .before .before .before .before .before .if2 .left)) (c .before .before .before .before .before .before .before .before .before .before .before .inside .ensures .0) (c .before .before .before .before .before .before .before .before .before .if3 .left) (c .before .before .before .pass .ensures .0) (c .before .before .before .before .before .before .before .before .before .before .before .before .before .before .before .before .before .before .before .before .before .before .before .before .before .loop .inv .0 .now) (c .if4 .taken)), c .before .before .before .pass .ensures .1)
 
 term-loop-less : (t : ℕ) → term-lts.Need-loop-less (
   wide16-reads.Asked,
@@ -277,7 +278,7 @@ term-loop-less : (t : ℕ) → term-lts.Need-loop-less (
   last-reads.Asked,
   last-reads.Learnt,
 ) (term-at t) term.Post term-Inv-loop term-μ-loop
-term-loop-less t c = omega (arith, at-bound (c .before .before .before .before .before .before .before .before .before .before .before .before .before .before .before .before .before .before .before .before .before .before .loop .inv .now), c .before .before .before .before .pass .ensures .further)
+term-loop-less t c = omega (arith, at-bound (c .before .before .before .before .before .before .before .before .before .before .before .before .before .before .before .before .before .before .before .before .before .before .before .before .before .before .loop .inv .0 .now), c .before .before .before .before .pass .ensures .0 .further)
 
 term-loop-again : (t : ℕ) → term-lts.Need-loop-again (
   wide16-reads.Asked,
@@ -293,7 +294,7 @@ term-loop-again : (t : ℕ) → term-lts.Need-loop-again (
   last-reads.Asked,
   last-reads.Learnt,
 ) (term-at t) term.Post term-Inv-loop term-μ-loop
-term-loop-again t c = record { now = next-stated (c .before .before .before .before .before .before .before .before .before .before .before .before .before .before .before .before .before .before .before .before .if1 .taken) (c .before .before .before .before .before .before .before .before .before .before .before .before .before .before .before .fits2 .ensures) (known-size (c .before .before .before .before .before .before .before .before .before .before .before .before .before .before .before .before .before .before .before .before .before .before .before .before .before .pre .1 .1) (c .before .before .before .before .before .before .before .before .before .before .before .before .before .before .before .before .wide16 .ensures .0)) (is-true _ (c .before .before .before .before .before .before .before .before .before .before .before .before .before .before .if2 .left)) (c .before .before .before .before .before .before .before .before .before .before .inside .ensures) (c .before .before .before .before .before .before .before .before .if3 .left) (c .before .before .before .before .pass .ensures) (c .before .before .before .before .before .before .before .before .before .before .before .before .before .before .before .before .before .before .before .before .before .before .loop .inv .now) (c .before .if4 .left); later = omega (arith, c .before .before .before .before .before .before .before .before .before .before .before .before .before .before .before .before .before .before .before .before .before .before .loop .inv .later, c .before .before .before .before .pass .ensures .further); rest = λ w′ ws′ ys′ r x. c .before .before .before .before .before .before .before .before .before .before .before .before .before .before .before .before .before .before .before .before .before .before .loop .inv .rest w′ ws′ ys′ r (rest-checks (c .before .before .before .before .before .before .before .before .before .before .before .before .before .before .before .before .before .before .before .before .if1 .taken) (c .before .before .before .before .before .before .before .before .before .before .before .before .before .before .before .fits2 .ensures) (known-size (c .before .before .before .before .before .before .before .before .before .before .before .before .before .before .before .before .before .before .before .before .before .before .before .before .before .pre .1 .1) (c .before .before .before .before .before .before .before .before .before .before .before .before .before .before .before .before .wide16 .ensures .0)) (is-true _ (c .before .before .before .before .before .before .before .before .before .before .before .before .before .before .if2 .left)) (c .before .before .before .before .before .before .before .before .before .before .inside .ensures) (c .before .before .before .before .before .before .before .before .if3 .left) (c .before .before .before .before .pass .ensures) (c .before .before .before .before .before .before .before .before .before .before .before .before .before .before .before .before .before .before .before .before .before .before .loop .inv .now) (c .before .if4 .left) x) }
+term-loop-again t c = (record { now = next-stated (c .before .before .before .before .before .before .before .before .before .before .before .before .before .before .before .before .before .before .before .before .before .before .before .before .if1 .taken) (c .before .before .before .before .before .before .before .before .before .before .before .before .before .before .before .before .before .before .before .fits2 .ensures) (known-size (c .before .before .before .before .before .before .before .before .before .before .before .before .before .before .before .before .before .before .before .before .before .before .before .before .before .before .before .before .before .pre .1 .1) (c .before .before .before .before .before .before .before .before .before .before .before .before .before .before .before .before .before .before .before .before .wide16 .ensures .0)) (is-true _ (c .before .before .before .before .before .before .before .before .before .before .before .before .before .before .before .before .before .before .if2 .left)) (c .before .before .before .before .before .before .before .before .before .before .before .before .inside .ensures .0) (c .before .before .before .before .before .before .before .before .before .before .if3 .left) (c .before .before .before .before .pass .ensures .0) (c .before .before .before .before .before .before .before .before .before .before .before .before .before .before .before .before .before .before .before .before .before .before .before .before .before .before .loop .inv .0 .now) (c .before .if4 .left); later = omega (arith, c .before .before .before .before .before .before .before .before .before .before .before .before .before .before .before .before .before .before .before .before .before .before .before .before .before .before .loop .inv .0 .later, c .before .before .before .before .pass .ensures .0 .further); rest = λ w′ ws′ ys′ r x. c .before .before .before .before .before .before .before .before .before .before .before .before .before .before .before .before .before .before .before .before .before .before .before .before .before .before .loop .inv .0 .rest w′ ws′ ys′ r (rest-checks (c .before .before .before .before .before .before .before .before .before .before .before .before .before .before .before .before .before .before .before .before .before .before .before .before .if1 .taken) (c .before .before .before .before .before .before .before .before .before .before .before .before .before .before .before .before .before .before .before .fits2 .ensures) (known-size (c .before .before .before .before .before .before .before .before .before .before .before .before .before .before .before .before .before .before .before .before .before .before .before .before .before .before .before .before .before .pre .1 .1) (c .before .before .before .before .before .before .before .before .before .before .before .before .before .before .before .before .before .before .before .before .wide16 .ensures .0)) (is-true _ (c .before .before .before .before .before .before .before .before .before .before .before .before .before .before .before .before .before .before .if2 .left)) (c .before .before .before .before .before .before .before .before .before .before .before .before .inside .ensures .0) (c .before .before .before .before .before .before .before .before .before .before .if3 .left) (c .before .before .before .before .pass .ensures .0) (c .before .before .before .before .before .before .before .before .before .before .before .before .before .before .before .before .before .before .before .before .before .before .before .before .before .before .loop .inv .0 .now) (c .before .if4 .left) x) }, c .before .before .before .before .pass .ensures .1)
 
 term-last-requires : (t : ℕ) → term-lts.Need-last-requires (
   wide16-reads.Asked,
@@ -309,7 +310,7 @@ term-last-requires : (t : ℕ) → term-lts.Need-last-requires (
   last-reads.Asked,
   last-reads.Learnt,
 ) (term-at t) term.Post term-Inv-loop term-μ-loop
-term-last-requires t c κs = (c .before .before .before .before .before .before .before .before .pre .1 .0, (c .before .before .before .before .before .loop .inv .now), c .before .before .before .if1 .left)
+term-last-requires t c κs = (c .before .before .before .before .before .before .before .before .before .before .pre .1 .0, (c .before .before .before .before .before .before .before .loop .inv .0 .now), c .before .before .before .before .before .if1 .left, c .before .before .before .before .before .before .before .loop .inv .1)
 
 term-returns-4 : (t : ℕ) → term-lts.Need-returns-4 (
   wide16-reads.Asked,
@@ -325,7 +326,7 @@ term-returns-4 : (t : ℕ) → term-lts.Need-returns-4 (
   last-reads.Asked,
   last-reads.Learnt,
 ) (term-at t) term.Post term-Inv-loop term-μ-loop
-term-returns-4 t c = c .before .before .before .before .before .before .loop .inv .rest _ _ _ _ (c .last .ensures)
+term-returns-4 t c = (c .before .before .before .before .before .before .before .before .loop .inv .0 .rest _ _ _ _ (c .last .ensures .0), c .last .ensures .1)
 
 pub +inside+term-spec : {M : Type 1} → statement M
 +inside+term-spec =

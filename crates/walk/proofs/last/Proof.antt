@@ -21,22 +21,22 @@ halt-requires : tie.Need-halt-requires
 halt-requires c κs = search needs
 
 returns : tie.Need-returns
-returns c = rw (c .halt .ensures) (checks-outgrown (c .before .before .fits2 .ensures) (one-symbol (c .before .before .before .before .before .before .pre .2)) (is-false _ (c .before .if1 .taken)) (c .before .before .before .before .before .before .pre .1))
+returns c = (rw (c .halt .ensures) (checks-outgrown (c .before .before .fits2 .ensures) (one-symbol (c .before .before .before .before .before .before .pre .2)) (is-false _ (c .before .if1 .taken)) (c .before .before .before .before .before .before .pre .1)), c .before .before .before .before .before .before .pre .3)
 
 shared-slice-read-if2 : tie.Need-shared-slice-read-if2
 shared-slice-read-if2 c = text-in (c .before .before .before .before .before .before .pre .1 .here .stands)
 
 variable-requires : tie.Need-variable-requires
-variable-requires c κs = (c .before .before .before .before .before .before .before .before .before .pre .0, own-ready (c .before .before .before .before .before .fits2 .ensures) (one-symbol (c .before .before .before .before .before .before .before .before .before .pre .2)) (is-true _ (c .before .before .before .before .if1 .left)) (c .before .before .before .before .before .before .before .before .before .pre .1), c .before .before .if2 .taken, c .before .before .before .before .before .before .before .before .before .pre .2)
+variable-requires c κs = (c .before .before .before .before .before .before .before .before .before .before .before .pre .0, own-ready (c .before .before .before .before .before .before .before .fits2 .ensures) (one-symbol (c .before .before .before .before .before .before .before .before .before .before .before .pre .2)) (is-true _ (c .before .before .before .before .before .before .if1 .left)) (c .before .before .before .before .before .before .before .before .before .before .before .pre .1), c .before .before .before .before .if2 .taken, c .before .before .before .before .before .before .before .before .before .before .before .pre .2, c .before .before .before .before .before .before .before .before .before .before .before .pre .3)
 
 returns-2 : tie.Need-returns-2
-returns-2 c = ends-checks (c .before .before .before .before .before .before .fits2 .ensures) (is-true _ (c .before .before .before .before .before .if1 .left)) (one-symbol (c .before .before .before .before .before .before .before .before .before .before .pre .2)) (c .before .before .before .before .before .before .before .before .before .before .pre .1) (c .variable .ensures)
+returns-2 c = (ends-checks (c .before .before .before .before .before .before .before .before .fits2 .ensures) (is-true _ (c .before .before .before .before .before .before .before .if1 .left)) (one-symbol (c .before .before .before .before .before .before .before .before .before .before .before .before .pre .2)) (c .before .before .before .before .before .before .before .before .before .before .before .before .pre .1) (c .variable .ensures .0), c .variable .ensures .1)
 
 halt-requires-2 : tie.Need-halt-requires-2
 halt-requires-2 c κs = search needs
 
 returns-3 : tie.Need-returns-3
-returns-3 c = rw (c .halt2 .ensures) (tau-passes (c .before .before .if2 .left) (own-ready (c .before .before .before .before .before .fits2 .ensures) (one-symbol (c .before .before .before .before .before .before .before .before .before .pre .2)) (is-true _ (c .before .before .before .before .if1 .left)) (c .before .before .before .before .before .before .before .before .before .pre .1)) (c .before .before .before .before .before .fits2 .ensures) (is-true _ (c .before .before .before .before .if1 .left)) (one-symbol (c .before .before .before .before .before .before .before .before .before .pre .2)) (c .before .if3 .taken))
+returns-3 c = (rw (c .halt2 .ensures) (tau-passes (c .before .before .if2 .left) (own-ready (c .before .before .before .before .before .fits2 .ensures) (one-symbol (c .before .before .before .before .before .before .before .before .before .pre .2)) (is-true _ (c .before .before .before .before .if1 .left)) (c .before .before .before .before .before .before .before .before .before .pre .1)) (c .before .before .before .before .before .fits2 .ensures) (is-true _ (c .before .before .before .before .if1 .left)) (one-symbol (c .before .before .before .before .before .before .before .before .before .pre .2)) (c .before .if3 .taken)), c .before .before .before .before .before .before .before .before .before .pre .3)
 
 sub-slot-at : tie.Need-sub-slot-at
 sub-slot-at c = omega (arith, base-bound (c .before .before .before .before .before .before .before .before .pre .1), c .if3 .left)
@@ -48,7 +48,7 @@ halt-requires-3 : tie.Need-halt-requires-3
 halt-requires-3 c κs = search needs
 
 returns-4 : tie.Need-returns-4
-returns-4 c = rw (c .halt3 .ensures) (tau-waits (c .before .before .before .if2 .left) (own-ready (c .before .before .before .before .before .before .fits2 .ensures) (one-symbol (c .before .before .before .before .before .before .before .before .before .before .pre .2)) (is-true _ (c .before .before .before .before .before .if1 .left)) (c .before .before .before .before .before .before .before .before .before .before .pre .1)) (c .before .before .before .before .before .before .fits2 .ensures) (is-true _ (c .before .before .before .before .before .if1 .left)) (one-symbol (c .before .before .before .before .before .before .before .before .before .before .pre .2)) (c .before .before .if3 .left) (c .before .slot-at .ensures .0))
+returns-4 c = (rw (c .halt3 .ensures) (tau-waits (c .before .before .before .if2 .left) (own-ready (c .before .before .before .before .before .before .fits2 .ensures) (one-symbol (c .before .before .before .before .before .before .before .before .before .before .pre .2)) (is-true _ (c .before .before .before .before .before .if1 .left)) (c .before .before .before .before .before .before .before .before .before .before .pre .1)) (c .before .before .before .before .before .before .fits2 .ensures) (is-true _ (c .before .before .before .before .before .if1 .left)) (one-symbol (c .before .before .before .before .before .before .before .before .before .before .pre .2)) (c .before .before .if3 .left) (c .before .slot-at .ensures .0)), c .before .before .before .before .before .before .before .before .before .before .pre .3)
 
 pub last-spec : {M : Type 1} → statement M
 last-spec =

@@ -40,19 +40,19 @@ pass-app-requires : tie.Need-pass-app-requires
 pass-app-requires c κs = (c .before .before .before .before .before .before .before .before .pre .0, (inner-end (c .before .before .before .before .before .before .before .before .pre .1) (c .before .before .before .before .wide16 .ensures .0)), c .before .before .if1 .taken, c .before .before .before .before .before .before .before .before .pre .3)
 
 returns : tie.Need-returns
-returns c = search needs
+returns c = (c .pass-app .ensures, c .before .before .before .before .before .before .before .before .before .pre .4)
 
 pass-alone-requires : tie.Need-pass-alone-requires
 pass-alone-requires c κs = (c .before .before .before .before .before .before .before .before .before .pre .0, (inner-end (c .before .before .before .before .before .before .before .before .before .pre .1) (c .before .before .before .before .before .wide16 .ensures .0)), record { high = c .before .before .before .before .before .before .before .before .before .pre .2; no-app = c .before .before .before .if1 .left }, c .before .before .before .before .before .before .before .before .before .pre .3, c .before .before .if2 .taken)
 
 returns-2 : tie.Need-returns-2
-returns-2 c = search needs
+returns-2 c = (c .pass-alone .ensures, c .before .before .before .before .before .before .before .before .before .before .pre .4)
 
 pass-pair-requires : tie.Need-pass-pair-requires
-pass-pair-requires c κs = (c .before .before .before .before .before .before .before .before .before .pre .0, (inner-end (c .before .before .before .before .before .before .before .before .before .pre .1) (c .before .before .before .before .before .wide16 .ensures .0)), record { high = c .before .before .before .before .before .before .before .before .before .pre .2; no-app = c .before .before .before .if1 .left }, c .before .before .before .before .before .before .before .before .before .pre .3, c .before .before .if2 .left)
+pass-pair-requires c κs = (c .before .before .before .before .before .before .before .before .before .before .before .pre .0, (inner-end (c .before .before .before .before .before .before .before .before .before .before .before .pre .1) (c .before .before .before .before .before .before .before .wide16 .ensures .0)), record { high = c .before .before .before .before .before .before .before .before .before .before .before .pre .2; no-app = c .before .before .before .before .before .if1 .left }, c .before .before .before .before .before .before .before .before .before .before .before .pre .3, c .before .before .before .before .if2 .left, c .before .before .before .before .before .before .before .before .before .before .before .pre .4)
 
 returns-3 : tie.Need-returns-3
-returns-3 c = search needs
+returns-3 c = c .pass-pair .ensures
 
 pub pass-spec : {M : Type 1} → statement M
 pass-spec =

@@ -23,28 +23,28 @@ put-own-requires : tie.Need-put-own-requires
 put-own-requires c κs = (omega arith, wait-domain (c .before .before .before .before .before .pre .1) (c .before .before .before .before .before .pre .0 .here) (c .before .before .before .before .before .pre .2) (c .before .before .before .before .before .pre .0 .room) (c .before .before .before .before .before .pre .4) (c .before .put-wait .ensures))
 
 compare-requires : tie.Need-compare-requires
-compare-requires c κs = comparing (c .before .before .before .before .before .before .before .pre .1) (c .before .before .before .before .before .before .before .pre .0 .here) (c .before .before .before .before .before .before .before .pre .2) (c .before .before .before .before .before .before .before .pre .0 .room) (c .before .before .before .before .before .before .before .pre .4) (c .before .before .before .put-wait .ensures) (c .before .put-own .ensures)
+compare-requires c κs = (comparing (c .before .before .before .before .before .before .before .before .before .pre .1) (c .before .before .before .before .before .before .before .before .before .pre .0 .here) (c .before .before .before .before .before .before .before .before .before .pre .2) (c .before .before .before .before .before .before .before .before .before .pre .0 .room) (c .before .before .before .before .before .before .before .before .before .pre .4) (c .before .before .before .before .before .put-wait .ensures) (c .before .before .before .put-own .ensures), c .before .before .before .before .before .before .before .before .before .pre .5)
 
 sub-slot-at : tie.Need-sub-slot-at
-sub-slot-at c = omega (arith, wait-above (c .before .before .before .before .before .before .before .before .before .before .pre .1) (c .before .before .before .before .before .before .before .before .before .before .pre .0 .here) (c .before .before .before .before .before .before .before .before .before .before .pre .2) (c .before .before .before .before .before .before .before .before .before .before .pre .0 .room) (c .before .before .before .before .before .before .before .before .before .before .pre .4))
+sub-slot-at c = omega (arith, wait-above (c .before .before .before .before .before .before .before .before .before .before .before .before .pre .1) (c .before .before .before .before .before .before .before .before .before .before .before .before .pre .0 .here) (c .before .before .before .before .before .before .before .before .before .before .before .before .pre .2) (c .before .before .before .before .before .before .before .before .before .before .before .before .pre .0 .room) (c .before .before .before .before .before .before .before .before .before .before .before .before .pre .4))
 
 slot-at-requires : tie.Need-slot-at-requires
-slot-at-requires c κs = omega (arith, wait-above (c .before .before .before .before .before .before .before .before .before .before .pre .1) (c .before .before .before .before .before .before .before .before .before .before .pre .0 .here) (c .before .before .before .before .before .before .before .before .before .before .pre .2) (c .before .before .before .before .before .before .before .before .before .before .pre .0 .room) (c .before .before .before .before .before .before .before .before .before .before .pre .4), own-bound (c .before .before .before .before .before .before .before .before .before .before .pre .1) (c .before .before .before .before .before .before .before .before .before .before .pre .0 .here), c .before .before .before .before .before .before .before .before .before .before .pre .0 .here .tops)
+slot-at-requires c κs = omega (arith, wait-above (c .before .before .before .before .before .before .before .before .before .before .before .before .pre .1) (c .before .before .before .before .before .before .before .before .before .before .before .before .pre .0 .here) (c .before .before .before .before .before .before .before .before .before .before .before .before .pre .2) (c .before .before .before .before .before .before .before .before .before .before .before .before .pre .0 .room) (c .before .before .before .before .before .before .before .before .before .before .before .before .pre .4), own-bound (c .before .before .before .before .before .before .before .before .before .before .before .before .pre .1) (c .before .before .before .before .before .before .before .before .before .before .before .before .pre .0 .here), c .before .before .before .before .before .before .before .before .before .before .before .before .pre .0 .here .tops)
 
 returns : tie.Need-returns
-returns c = stop-ruled (c .before .before .before .before .before .before .before .before .before .before .before .pre .1) (c .before .before .before .before .before .before .before .before .before .before .before .pre .0) (c .before .before .before .before .before .before .before .before .before .before .before .pre .2) (c .before .before .before .before .before .before .before .before .before .before .before .pre .4) (c .before .before .before .before .before .before .before .put-wait .ensures) (c .before .before .before .before .before .put-own .ensures) (c .before .before .before .compare .ensures) (c .before .if1 .taken) (c .slot-at .ensures .0)
+returns c = (stop-ruled (c .before .before .before .before .before .before .before .before .before .before .before .before .before .pre .1) (c .before .before .before .before .before .before .before .before .before .before .before .before .before .pre .0) (c .before .before .before .before .before .before .before .before .before .before .before .before .before .pre .2) (c .before .before .before .before .before .before .before .before .before .before .before .before .before .pre .4) (c .before .before .before .before .before .before .before .before .before .put-wait .ensures) (c .before .before .before .before .before .before .before .put-own .ensures) (c .before .before .before .compare .ensures .0) (c .before .if1 .taken) (c .slot-at .ensures .0), c .before .before .before .compare .ensures .1)
 
 push-requires : tie.Need-push-requires
-push-requires c κs = (fewer-entries (c .before .before .before .before .before .before .before .before .before .before .pre .1) (c .before .before .before .before .before .before .before .before .before .before .pre .0 .here) (c .before .before .before .before .before .before .before .before .before .before .pre .2), c .before .before .before .before .before .before .before .before .before .before .pre .0 .here .stored .inside)
+push-requires c κs = (fewer-entries (c .before .before .before .before .before .before .before .before .before .before .before .before .pre .1) (c .before .before .before .before .before .before .before .before .before .before .before .before .pre .0 .here) (c .before .before .before .before .before .before .before .before .before .before .before .before .pre .2), c .before .before .before .before .before .before .before .before .before .before .before .before .pre .0 .here .stored .inside)
 
-add-t23 : tie.Need-add-t23
-add-t23 c = let z = c .before .before .before .before .before .before .before .before .before .before .before .before .pre .0 .here .reached in omega (arith, z .few, reached-inside z)
+add-t25 : tie.Need-add-t25
+add-t25 c = let z = c .before .before .before .before .before .before .before .before .before .before .before .before .before .before .pre .0 .here .reached in omega (arith, z .few, reached-inside z)
 
-sub-t23 : tie.Need-sub-t23
-sub-t23 c = omega (arith, wait-above (c .before .before .before .before .before .before .before .before .before .before .before .before .pre .1) (c .before .before .before .before .before .before .before .before .before .before .before .before .pre .0 .here) (c .before .before .before .before .before .before .before .before .before .before .before .before .pre .2) (c .before .before .before .before .before .before .before .before .before .before .before .before .pre .0 .room) (c .before .before .before .before .before .before .before .before .before .before .before .before .pre .4))
+sub-t25 : tie.Need-sub-t25
+sub-t25 c = omega (arith, wait-above (c .before .before .before .before .before .before .before .before .before .before .before .before .before .before .pre .1) (c .before .before .before .before .before .before .before .before .before .before .before .before .before .before .pre .0 .here) (c .before .before .before .before .before .before .before .before .before .before .before .before .before .before .pre .2) (c .before .before .before .before .before .before .before .before .before .before .before .before .before .before .pre .0 .room) (c .before .before .before .before .before .before .before .before .before .before .before .before .before .before .pre .4))
 
 returns-2 : tie.Need-returns-2
-returns-2 c = rw (c .before .push .ensures) (pair-ruled (c .before .before .before .before .before .before .before .before .before .before .before .before .pre .1) (c .before .before .before .before .before .before .before .before .before .before .before .before .pre .0) (c .before .before .before .before .before .before .before .before .before .before .before .before .pre .2) (c .before .before .before .before .before .before .before .before .before .before .before .before .pre .4) (c .before .before .before .before .before .before .before .before .put-wait .ensures) (c .before .before .before .before .before .before .put-own .ensures) (c .before .before .before .before .compare .ensures) (c .before .before .if1 .left))
+returns-2 c = (rw (c .before .push .ensures) (pair-ruled (c .before .before .before .before .before .before .before .before .before .before .before .before .before .before .pre .1) (c .before .before .before .before .before .before .before .before .before .before .before .before .before .before .pre .0) (c .before .before .before .before .before .before .before .before .before .before .before .before .before .before .pre .2) (c .before .before .before .before .before .before .before .before .before .before .before .before .before .before .pre .4) (c .before .before .before .before .before .before .before .before .before .before .put-wait .ensures) (c .before .before .before .before .before .before .before .before .put-own .ensures) (c .before .before .before .before .compare .ensures .0) (c .before .before .if1 .left)), c .before .before .before .before .compare .ensures .1)
 
 pub pass-pair-spec : {M : Type 1} → statement M
 pass-pair-spec =
@@ -58,6 +58,6 @@ pass-pair-spec =
     slot-at-requires
     returns
     push-requires
-    add-t23
-    sub-t23
+    add-t25
+    sub-t25
     returns-2)

@@ -26,10 +26,10 @@ measure-requires : tie.Need-measure-requires
 measure-requires c κs = let g = c .before .before .before .before .before .before .before .before .before .before .pre in measurable (g .2) (g .3) (c .before .before .before .before .before .before .wide .ensures) (g .1 .here) (c .before .before .entry-at-by .ensures)
 
 copied-requires : tie.Need-copied-requires
-copied-requires c κs = let g = c .before .before .before .before .before .before .before .before .before .before .before .before .before .pre in (g .0, var-stated (g .2) (g .3) (c .before .before .before .before .before .before .before .before .before .wide .ensures) (g .1) (c .before .before .before .before .before .entry-at-by .ensures) (c .before .before .measure .ensures))
+copied-requires c κs = let g = c .before .before .before .before .before .before .before .before .before .before .before .before .before .before .before .pre in (g .0, var-stated (g .2) (g .3) (c .before .before .before .before .before .before .before .before .before .before .before .wide .ensures) (g .1) (c .before .before .before .before .before .before .before .entry-at-by .ensures) (c .before .before .before .before .measure .ensures), g .4)
 
 returns : tie.Need-returns
-returns c = let g = c .before .before .before .before .before .before .before .before .before .before .before .before .before .before .pre in var-ends (g .2) (g .3) (c .before .before .before .before .before .before .before .before .before .before .wide .ensures) (c .before .before .before .before .before .before .entry-at-by .ensures) (c .before .before .before .measure .ensures) (c .copied .ensures)
+returns c = let g = c .before .before .before .before .before .before .before .before .before .before .before .before .before .before .before .before .pre in (var-ends (g .2) (g .3) (c .before .before .before .before .before .before .before .before .before .before .before .before .wide .ensures) (c .before .before .before .before .before .before .before .before .entry-at-by .ensures) (c .before .before .before .before .before .measure .ensures) (c .copied .ensures .0), c .copied .ensures .1)
 
 pub variable-spec : {M : Type 1} → statement M
 variable-spec =

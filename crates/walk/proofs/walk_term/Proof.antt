@@ -22,10 +22,10 @@ empty-frame-requires : tie.Need-empty-frame-requires
 empty-frame-requires c κs = search needs
 
 term-requires : tie.Need-term-requires
-term-requires c κs = (c .before .before .before .before .before .before .before .before .before .before .table .ensures, c .before .before .before .before .before .before .before .size-all .ensures, begun (c .before .before .before .before .before .before .before .before .before .before .before .before .before .pre) (c .before .before .before .before .before .before .empty-frame .ensures) refl refl refl)
+term-requires c κs = (c .before .before .before .before .before .before .before .before .before .before .before .before .table .ensures, c .before .before .before .before .before .before .before .before .before .size-all .ensures, begun (c .before .before .before .before .before .before .before .before .before .before .before .before .before .before .before .pre) (c .before .before .before .before .before .before .before .before .empty-frame .ensures) refl refl refl, record { left-long = refl; right-long = refl })
 
 returns : tie.Need-returns
-returns c = answered (c .before .before .before .before .before .before .before .before .before .before .before .before .before .before .pre) (c .before .before .before .before .before .before .before .empty-frame .ensures) refl refl refl (c .term .ensures)
+returns c = answered (c .before .before .before .before .before .before .before .before .before .before .before .before .before .before .before .before .pre) (c .before .before .before .before .before .before .before .before .before .empty-frame .ensures) refl refl refl (c .term .ensures .0)
 
 pub walk-term-spec : {M : Type 1} → statement M
 walk-term-spec =
