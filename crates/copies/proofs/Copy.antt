@@ -31,12 +31,11 @@ use Rattle.verdict.specs.Verdict.{Waiting, terms, liftWaiting, number, placeOf,
 use Rattle.verdict.proofs.Runs.{terms-lift}
 use Rattle.waiting.specs.Waiting.{Part, queueLength, slotOf, Waits, Queue, queue-none, queue-one, within, SmallSlot, Noted, Figured, Fitted}
 use Rattle.copies.specs.State.{Sound, sound-empty, sound-single, sound-pair, Reached, Says, says-passed, says-stopped, says-never, copiedNow, Known, exact, fitting, CopyAt, Room}
-use Rattle.copies.specs.Contracts.{stopping, goingOn, Ready, Stated, Turned, turn-stops, turn-goes, Ruled, Turns}
+use Rattle.copies.specs.Contracts.{Turning, stopping, goingOn, Ready, Stated, Turned, turn-stops, turn-goes, Ruled, Turns}
 use Rattle.copies.specs.declared.Walked.{Walked}
 use Rattle.waiting.specs.declared.Slot.{Slot}
 use Rattle.waiting.specs.declared.Figures.{Figures}
 use Rattle.copies.specs.declared.Copying.{Copying}
-use Rattle.copies.specs.declared.Turning.{Turning}
 use Rattle.waiting.proofs.Texts.{positive, text-tau, Variable, text-var, Two, text-app, text-abs, text-in, text-inner}
 use Rattle.waiting.proofs.Queues.{queue-empty, queue-base, queue-length, Last, queue-last, queue-keep}
 use Rattle.copies.proofs.Runs.{copied-step, fewer-var, fewer-app, copied-fits, room, reached-turned, tested-true, tested-false}

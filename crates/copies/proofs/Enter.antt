@@ -28,12 +28,11 @@ use Rattle.verdict.specs.Verdict.{Waiting, terms, liftWaiting, number, placeOf,
 use Rattle.verdict.proofs.Runs.{terms-lift}
 use Rattle.waiting.specs.Waiting.{Part, queueLength, slotOf, Waits, Queue, Written, Writable, Puts, TopAsked, TopPut}
 use Rattle.copies.specs.State.{Sound, sound-single, sound-pair, Reached, Says, says-passed, says-stopped, copiedNow, Known, exact, fitting, CopyAt, Room}
-use Rattle.copies.specs.Contracts.{stopping, goingOn, Ready, AbsReady, Turned, turn-stops, turn-goes, Ruled}
+use Rattle.copies.specs.Contracts.{Turning, stopping, goingOn, Ready, AbsReady, Turned, turn-stops, turn-goes, Ruled}
 use Rattle.waiting.specs.declared.Slot.{Slot}
 use Rattle.compare.specs.declared.Compared.{Compared}
 use Rattle.compare.specs.Compares.{Comparing, CompareSays, compare-passed, compare-stopped, Compares}
 use Rattle.copies.specs.declared.Copying.{Copying}
-use Rattle.copies.specs.declared.Turning.{Turning}
 use Rattle.waiting.proofs.Texts.{positive, Two, text-abs}
 use Rattle.waiting.proofs.Queues.{queue-empty, queue-base, Last, queue-last, queue-deeper, queue-agree, now-part}
 use Rattle.copies.proofs.Copy.{sound-closed}

@@ -26,14 +26,13 @@ use Rattle.verdict.specs.Bounds.{stateFits, waitingSize, waitingScope}
 use Rattle.verdict.specs.Verdict.{Waiting, terms, number, placeOf, state-outgrown, Progress, Run, stopped, turned, tested, copiedRule, enough}
 use Rattle.waiting.specs.Waiting.{queueLength, slotOf, within, Fitted, Puts, Written, TopPut}
 use Rattle.copies.specs.State.{Says, says-stopped, copiedNow, CopyAt, Room}
-use Rattle.copies.specs.Contracts.{nearStop, nearGo, withFrame, stopping, goingOn, Ready, AbsReady, Stated, Turned, turn-stops, turn-goes, Ruled, Settled, settled-stops, settled-abs, Settles, Turns, Copies}
+use Rattle.copies.specs.Contracts.{Turning, nearStop, nearGo, withFrame, entering, stopping, goingOn, Ready, AbsReady, Stated, Turned, turn-stops, turn-goes, Ruled, Settled, settled-stops, settled-abs, Settles, Turns, Copies}
 use Rattle.waiting.specs.declared.Slot.{Slot}
 use Rattle.copies.specs.declared.Walked.{Walked}
 use Rattle.compare.specs.declared.Compared.{Compared}
 use Rattle.compare.specs.Compares.{Comparing, CompareSays, compare-passed, compare-stopped, Compares}
 use Rattle.copies.specs.declared.Copying.{Copying}
 use Rattle.copies.specs.declared.Near.{Near}
-use Rattle.copies.specs.declared.Turning.{Turning}
 use Rattle.copies.proofs.Runs.{copied-step, copied-fits, room, tested-true, tested-false}
 use Rattle.copies.proofs.Copy.{state-size}
 use Rattle.copies.proofs.Enter.{domain-written, alone-goes, yet-written, yet-whole, yet-below, yet-past, yet-goes, wait-whole, wait-below, wait-domain, wait-stops, wait-goes}
@@ -45,6 +44,12 @@ is-false false e = refl
 pub is-true : (b : Bool) → not b ≡ false → b ≡ true
 is-true true e = refl
 is-true false e = sym e
+
+-- A stop says nothing of the frame.
+stops-still : {file t w ws ys : List ℕ} {base place : ℕ} {n i e : ℕ} {s : Copying} {f : FrameRecord} {m : ℕ} {x : Run} → Turned file t w ws ys base place (stopping n i s f) m x
+    → Turned file t w ws ys base place (entering (record { going = false; out = nearStop n i s .out; state = s; end = e }) f) m x
+stops-still (turn-stops a b) = turn-stops refl b
+stops-still (turn-goes a c l q) = let z : _≡_ {A = ℕ} 0 1 = cc in absurd (omega arith)
 
 -- ---- An abstractor.
 module _ {file t w ws ys : List ℕ} {base : ℕ} {s : Copying} {f : FrameRecord} {m : ℕ} (g : AbsReady file t w ws ys base s f m) where
@@ -77,7 +82,8 @@ module _ {file t w ws ys : List ℕ} {base : ℕ} {s : Copying} {f : FrameRecord
 
   module _ (place : ℕ) {w₁ w₂ : List ℕ} {a b : ℕ} (y : s .ytop ≤ 0) (e : s .top ≡ base → ⊥) (k : TopPut t ws w w₁ (f .len) (length t) base (s .top) (f .end) a) (v : Puts 0xff w₁ w₁ w₂ (s .from + 1) m (s .shift) (s .cut) 0 a b)
       {c : Compared} (r : Compares file w₂ (s .next) f a b c) where
-    pub wait-ruled-stop : {u : Slot} → (c .number ≡ 0 → ⊥) → u ≡ slotOf ws (s .top - 1) → Ruled file t w w₂ ws ys ys base place s f (stopping (c .number) (u .place) s f)
+    pub wait-ruled-stop : {u : Slot} → (c .number ≡ 0 → ⊥) → u ≡ slotOf ws (s .top - 1)
+        → Ruled file t w w₂ ws ys ys base place s f (entering (record { going = false; out = nearStop (c .number) (u .place) s .out; state = s; end = f .end }) f)
     wait-ruled-stop h q =
         let z = g .ready .at in
         let o = g .ready .room in
@@ -86,7 +92,7 @@ module _ {file t w ws ys : List ℕ} {base : ℕ} {s : Copying} {f : FrameRecord
           below = wait-below z o (g .high) (g .no-app) (g .ends) y e k v;
           grown = omega arith;
           ylong = z .ylong;
-          all = λ R W Q B p x o. wait-stops x o (g .high) (g .no-app) (g .ends) y e k v r place h q;
+          all = λ R W Q B p x o. stops-still (wait-stops x o (g .high) (g .no-app) (g .ends) y e k v r place h q);
         }
 
     pub wait-ruled-go : c .number ≡ 0

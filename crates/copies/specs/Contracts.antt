@@ -2,13 +2,13 @@
 -- Assumes nothing.
 use Prim.Native.Nat.{ℕ, _+_, _≤_, _<_}
 use mathlib.Core.Path.{_≡_}
-use mathlib.Core.Bool.{true, false}
+use mathlib.Core.Bool.{Bool, true, false}
 use mathlib.Core.List.{List}
 use lib.ListN.{length, getD}
 use Rattle.calculus.specs.Terms.{Term}
 use Rattle.calculus.specs.Frames.{Frame}
 use Rattle.code.specs.Limits.{longestState}
-use Rattle.frames.specs.Stored.{Agree, EndAt}
+use Rattle.frames.specs.Stored.{Agree, EndAt, pushed}
 use Rattle.frames.specs.declared.FrameRecord.{FrameRecord}
 use Rattle.verdict.specs.Verdict.{Waiting, terms, number, Progress, Run, turned, copiedRule, enough}
 use Rattle.waiting.specs.Waiting.{queueLength, within}
@@ -16,9 +16,16 @@ use Rattle.copies.specs.State.{Says, copiedNow, CopyAt, Room}
 use Rattle.copies.specs.declared.Walked.{Walked}
 use Rattle.copies.specs.declared.Copying.{Copying}
 use Rattle.copies.specs.declared.Near.{Near}
-use Rattle.copies.specs.declared.Turning.{Turning}
+use Rattle.copies.specs.declared.Entered.{Entered}
 
 -- COPIED TEXT
+-- What a rule comes to, with the frame after it.
+pub record Turning : Type 0 where
+  pub going : Bool
+  pub out : Walked
+  pub state : Copying
+  pub frame : FrameRecord
+
 abbrev pub nearStop : ℕ → ℕ → Copying → Near
 nearStop number place s = record { going = false; out = record { number = number; place = place; comparisons = s .comparisons; next = s .next }; state = s }
 
@@ -28,6 +35,10 @@ nearGo s = record { going = true; out = record { number = 0; place = 0; comparis
 -- With the frame that it leaves as it is.
 abbrev pub withFrame : Near → FrameRecord → Turning
 withFrame r f = record { going = r .going; out = r .out; state = r .state; frame = f }
+
+-- With the frame that has the entry.
+abbrev pub entering : Entered → FrameRecord → Turning
+entering r f = record { going = r .going; out = r .out; state = r .state; frame = pushed f (r .end) }
 
 abbrev pub stopping : ℕ → ℕ → Copying → FrameRecord → Turning
 stopping number place s f = record { going = false; out = record { number = number; place = place; comparisons = s .comparisons; next = s .next }; state = s; frame = f }

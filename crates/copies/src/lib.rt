@@ -7,7 +7,7 @@ ghost use Rattle.calculus.specs.Terms.{liftIndex};
 ghost use Rattle.code.specs.Code.{Tabled};
 ghost use Rattle.frames.specs.Stored.{recordOf};
 ghost use Rattle.compare.specs.Sides.{Buffers};
-ghost use Rattle.copies.specs.Contracts.{nearStop, nearGo, withFrame, stopping, goingOn, AbsReady, Ready, Stated, Ruled, Settles, Turns, Copies};
+ghost use Rattle.copies.specs.Contracts.{nearStop, nearGo, withFrame, entering, AbsReady, Ready, Stated, Ruled, Settles, Copies};
 use compare::compare;
 use frames::FrameRecord;
 use frames::entry_at_by;
@@ -53,12 +53,12 @@ pub struct Near {
     pub state: Copying,
 }
 
-// What a rule comes to.
-pub struct Turning {
+// What the rule for an abstractor comes to, and where the bytes of its entry end.
+pub struct Entered {
     pub going: bool,
     pub out: Walked,
     pub state: Copying,
-    pub frame: FrameRecord,
+    pub end: usize,
 }
 
 pub fn wide(x: u8) -> usize
@@ -112,29 +112,17 @@ fn on(s: Copying) -> Near
     }
 }
 
-fn framed(r: Near, f: FrameRecord) -> Turning
-    ensures { λ x. ⌜ x ≡ withFrame r f ⌝ }
+fn with_end(r: Near, end: usize) -> Entered
+    ensures { λ x. ⌜ x ≡ record { going = r .going; out = r .out; state = r .state; end = end } ⌝ }
 {
     let out = r.out;
     let state = r.state;
-    Turning {
+    Entered {
         going: r.going,
         out,
         state,
-        frame: f,
+        end,
     }
-}
-
-fn stop(number: u32, place: usize, s: Copying, f: FrameRecord) -> Turning
-    ensures { λ r. ⌜ r ≡ stopping number place s f ⌝ }
-{
-    framed(finish(number, place, s), f)
-}
-
-fn go(s: Copying, f: FrameRecord) -> Turning
-    ensures { λ r. ⌜ r ≡ goingOn s f ⌝ }
-{
-    framed(on(s), f)
 }
 
 // (vi)
@@ -258,16 +246,16 @@ fn abs_yet(
     base: usize,
     place: usize,
     s: Copying,
-    f: FrameRecord,
+    starts: &[u16; 253],
+    len: usize,
+    end: usize,
     m: usize,
-) -> Turning
-    requires { ⌜ AbsReady (now file) (now t) (now work) (now ws) (now ys) base s f m × (0 < s .ytop) ⌝ }
-    ensures { λ r. ⌜ Ruled (now (file .entry)) (now (t .entry)) (now (work .entry)) (now (work .exit)) (now (ws .entry)) (now (ys .entry)) (now (ys .entry)) base place s f r ⌝ }
+) -> Entered
+    requires { ⌜ AbsReady (now file) (now t) (now work) (now ws) (now ys) base s (recordOf (now starts) len end) m × (0 < s .ytop) ⌝ }
+    ensures { λ r. ⌜ Ruled (now (file .entry)) (now (t .entry)) (now (work .entry)) (now (work .exit)) (now (ws .entry)) (now (ys .entry)) (now (ys .entry)) base place s (recordOf (now (starts .entry)) len end) (entering r (recordOf (now (starts .entry)) len end)) ⌝ }
 {
-    let to = f.end;
-    let a = put_yet(work, ys, s.ytop, f.len, to, to);
+    let a = put_yet(work, ys, s.ytop, len, end, end);
     let b = put_seen(work, 0xff, s.from + 1, m, a, s.shift, s.cut, 0);
-    let g = push(f, b);
     let o = Copying {
         top: s.top,
         ytop: s.ytop - 1,
@@ -279,7 +267,7 @@ fn abs_yet(
         next: s.next,
         comparisons: s.comparisons,
     };
-    go(o, g)
+    with_end(on(o), b)
 }
 
 // (x): nothing waits.
@@ -292,15 +280,15 @@ fn abs_alone(
     base: usize,
     place: usize,
     s: Copying,
-    f: FrameRecord,
+    starts: &[u16; 253],
+    len: usize,
+    end: usize,
     m: usize,
-) -> Turning
-    requires { ⌜ AbsReady (now file) (now t) (now work) (now ws) (now ys) base s f m × (s .ytop ≤ 0) × (s .top ≡ base) ⌝ }
-    ensures { λ r. ⌜ Ruled (now (file .entry)) (now (t .entry)) (now (work .entry)) (now (work .exit)) (now (ws .entry)) (now (ys .entry)) (now (ys .entry)) base place s f r ⌝ }
+) -> Entered
+    requires { ⌜ AbsReady (now file) (now t) (now work) (now ws) (now ys) base s (recordOf (now starts) len end) m × (s .ytop ≤ 0) × (s .top ≡ base) ⌝ }
+    ensures { λ r. ⌜ Ruled (now (file .entry)) (now (t .entry)) (now (work .entry)) (now (work .exit)) (now (ws .entry)) (now (ys .entry)) (now (ys .entry)) base place s (recordOf (now (starts .entry)) len end) (entering r (recordOf (now (starts .entry)) len end)) ⌝ }
 {
-    let to = f.end;
-    let b = put_seen(work, 0xff, s.from + 1, m, to, s.shift, s.cut, 0);
-    let g = push(f, b);
+    let b = put_seen(work, 0xff, s.from + 1, m, end, s.shift, s.cut, 0);
     let o = Copying {
         top: s.top,
         ytop: s.ytop,
@@ -312,7 +300,7 @@ fn abs_alone(
         next: s.next,
         comparisons: s.comparisons,
     };
-    go(o, g)
+    with_end(on(o), b)
 }
 
 // (xi): [U] takes the last of W, and is compared.
@@ -329,9 +317,9 @@ fn abs_wait(
     s: Copying,
     f: FrameRecord,
     m: usize,
-) -> Turning
+) -> Entered
     requires { ⌜ AbsReady (now file) (now t) (now work) (now ws) (now ys) base s f m × (s .ytop ≤ 0) × (s .top ≡ base → ⊥) × Buffers (now left) (now right) ⌝ }
-    ensures { λ r. ⌜ Ruled (now (file .entry)) (now (t .entry)) (now (work .entry)) (now (work .exit)) (now (ws .entry)) (now (ys .entry)) (now (ys .entry)) base place s f r × Buffers (now (left .exit)) (now (right .exit)) ⌝ }
+    ensures { λ r. ⌜ Ruled (now (file .entry)) (now (t .entry)) (now (work .entry)) (now (work .exit)) (now (ws .entry)) (now (ys .entry)) (now (ys .entry)) base place s f (entering r f) × Buffers (now (left .exit)) (now (right .exit)) ⌝ }
 {
     let to = f.end;
     let a = put_wait(t, work, ws, base, s.top, f.len, to);
@@ -339,9 +327,8 @@ fn abs_wait(
     let q = compare(file, s.next, work, f, a, b, left, right);
     if q.number != 0 {
         let v = slot_at(ws, s.top - 1);
-        return stop(q.number, v.place, s, f);
+        return with_end(finish(q.number, v.place, s), to);
     }
-    let g = push(f, b);
     let o = Copying {
         top: s.top - 1,
         ytop: s.ytop,
@@ -353,7 +340,7 @@ fn abs_wait(
         next: q.next,
         comparisons: s.comparisons + 1,
     };
-    go(o, g)
+    with_end(on(o), b)
 }
 
 fn abs_turn(
@@ -369,16 +356,42 @@ fn abs_turn(
     place: usize,
     s: Copying,
     f: FrameRecord,
-) -> Turning
+) -> Entered
     requires { ⌜ Tabled (now tb) × Ready (now file) (now t) (now work) (now ws) (now ys) base s f × (0xfe ≤ getD (now work) (s .from) 0) × (getD (now work) (s .from) 0 ≡ 0xfe → ⊥) × Buffers (now left) (now right) ⌝ }
-    ensures { λ r. ⌜ Ruled (now (file .entry)) (now (t .entry)) (now (work .entry)) (now (work .exit)) (now (ws .entry)) (now (ys .entry)) (now (ys .entry)) base place s f r × Buffers (now (left .exit)) (now (right .exit)) ⌝ }
+    ensures { λ r. ⌜ Ruled (now (file .entry)) (now (t .entry)) (now (work .entry)) (now (work .exit)) (now (ws .entry)) (now (ys .entry)) (now (ys .entry)) base place s f (entering r f) × Buffers (now (left .exit)) (now (right .exit)) ⌝ }
 {
     let m = end_of(tb, work, s.from + 1);
     if 0 < s.ytop {
-        return abs_yet(file, t, work, ws, ys, base, place, s, f, m);
+        return abs_yet(
+            file,
+            t,
+            work,
+            ws,
+            ys,
+            base,
+            place,
+            s,
+            &f.starts,
+            f.len,
+            f.end,
+            m,
+        );
     }
     if s.top == base {
-        return abs_alone(file, t, work, ws, ys, base, place, s, f, m);
+        return abs_alone(
+            file,
+            t,
+            work,
+            ws,
+            ys,
+            base,
+            place,
+            s,
+            &f.starts,
+            f.len,
+            f.end,
+            m,
+        );
     }
     abs_wait(file, t, work, ws, ys, left, right, base, place, s, f, m)
 }
@@ -423,10 +436,12 @@ fn settle(
     base: usize,
     place: usize,
     s: Copying,
-    f: FrameRecord,
+    starts: &[u16; 253],
+    len: usize,
+    end: usize,
 ) -> Near
-    requires { ⌜ Tabled (now tb) × Stated (now file) (now t) (now work) (now ws) (now ys) base s f ⌝ }
-    ensures { λ r. ⌜ Settles (now (file .entry)) (now (t .entry)) (now (work .entry)) (now (ws .entry)) (now (ys .entry)) (now (ys .exit)) base place s f r ⌝ }
+    requires { ⌜ Tabled (now tb) × Stated (now file) (now t) (now work) (now ws) (now ys) base s (recordOf (now starts) len end) ⌝ }
+    ensures { λ r. ⌜ Settles (now (file .entry)) (now (t .entry)) (now (work .entry)) (now (ws .entry)) (now (ys .entry)) (now (ys .exit)) base place s (recordOf (now (starts .entry)) len end) r ⌝ }
 {
     let mut z = s;
     loop {
@@ -436,8 +451,8 @@ fn settle(
             base,
             z.top,
             z.ytop,
-            f.end,
-            f.len,
+            end,
+            len,
             z.to - z.from,
             z.scope,
         );
@@ -448,52 +463,13 @@ fn settle(
         if work[from] > 0xfe {
             return on(z);
         }
-        let r = near_turn(
-            file,
-            tb,
-            t,
-            work,
-            ws,
-            ys,
-            base,
-            place,
-            z,
-            &f.starts,
-            f.len,
-            f.end,
-        );
+        let r = near_turn(file, tb, t, work, ws, ys, base, place, z, starts, len, end);
         if !r.going {
             return r;
         }
         let a = r.state;
         z = a;
     }
-}
-
-// Turns until an abstractor has been passed, or the end.
-fn turn(
-    file: &[u8],
-    tb: &[i32; 256],
-    t: &[u8],
-    work: &mut [u8; 8192],
-    ws: &[u16; 28672],
-    ys: &mut [u16; 28672],
-    left: &mut [u8; 4096],
-    right: &mut [u8; 4096],
-    base: usize,
-    place: usize,
-    s: Copying,
-    f: FrameRecord,
-) -> Turning
-    requires { ⌜ Tabled (now tb) × Stated (now file) (now t) (now work) (now ws) (now ys) base s f × Buffers (now left) (now right) ⌝ }
-    ensures { λ r. ⌜ Turns (now (file .entry)) (now (t .entry)) (now (work .entry)) (now (work .exit)) (now (ws .entry)) (now (ys .entry)) (now (ys .exit)) base place s f r × Buffers (now (left .exit)) (now (right .exit)) ⌝ }
-{
-    let r = settle(file, tb, t, work, ws, ys, base, place, s, f);
-    if !r.going {
-        return framed(r, f);
-    }
-    let a = r.state;
-    abs_turn(file, tb, t, work, ws, ys, left, right, base, place, a, f)
 }
 
 // Copied text, from a state on.
@@ -517,13 +493,30 @@ pub fn copied(
     let mut z = s;
     let mut g = f;
     loop {
-        let r = turn(file, tb, t, work, ws, ys, left, right, base, place, z, g);
+        let r = settle(
+            file,
+            tb,
+            t,
+            work,
+            ws,
+            ys,
+            base,
+            place,
+            z,
+            &g.starts,
+            g.len,
+            g.end,
+        );
         if !r.going {
             return r.out;
         }
         let a = r.state;
-        let b = r.frame;
-        z = a;
-        g = b;
+        let q = abs_turn(file, tb, t, work, ws, ys, left, right, base, place, a, g);
+        if !q.going {
+            return q.out;
+        }
+        let b = q.state;
+        z = b;
+        g = push(g, q.end);
     }
 }

@@ -10,8 +10,6 @@ use Rattle.copies.proofs.abs_alone.Statement.{statement}
 use Rattle.copies.proofs.abs_alone.Tie as tie
 use Rattle.copies.proofs.abs_alone.Reads as reads
 use Rattle.copies.proofs.abs_alone.Lts as lts
-use Rattle.frames.proofs.push.Reads as push-reads
-use Rattle.copies.proofs.go.Reads as go-reads
 use Rattle.waiting.proofs.put_seen.Reads as put-seen-reads
 
 add-put-seen : tie.Need-add-put-seen
@@ -20,18 +18,18 @@ add-put-seen c = search needs
 put-seen-requires : tie.Need-put-seen-requires
 put-seen-requires c κs = let z = c .before .before .before .before .pre .0 .ready .at in let b = abs-bounds (c .before .before .before .before .pre .0 .ready .at) (c .before .before .before .before .pre .0 .ready .room) (c .before .before .before .before .pre .0 .high) (c .before .before .before .before .pre .0 .no-app) (c .before .before .before .before .pre .0 .ends) in (omega (arith, b .1, b .2), omega (arith, z .cut-bound, z .stored .few), domain-writable (c .before .before .before .before .pre .0 .ready .at) (c .before .before .before .before .pre .0 .ready .room) (c .before .before .before .before .pre .0 .high) (c .before .before .before .before .pre .0 .no-app) (c .before .before .before .before .pre .0 .ends) (z .stored .work) agree-refl (alone-fits (c .before .before .before .before .pre .0 .ready .at) (c .before .before .before .before .pre .0 .ready .room) (c .before .before .before .before .pre .0 .high) (c .before .before .before .before .pre .0 .no-app)))
 
-push-requires : tie.Need-push-requires
-push-requires c κs = (fewer-entries (c .before .before .before .before .before .pre .0 .ready .at) (c .before .before .before .before .before .pre .0 .ready .room) (c .before .before .before .before .before .pre .0 .high) (c .before .before .before .before .before .pre .0 .no-app), c .before .before .before .before .before .pre .0 .ready .at .stored .inside)
-
 add-t16 : tie.Need-add-t16
 add-t16 c = search needs
 
-go-requires : tie.Need-go-requires
-go-requires c κs = search needs
+on-requires : tie.Need-on-requires
+on-requires c κs = search needs
 
 returns : tie.Need-returns
-returns c = rw (c .go .ensures, c .before .before .push .ensures) (alone-ruled (c .before .before .before .before .before .before .before .before .pre .0) _ (c .before .before .before .before .before .before .before .before .pre .1) (c .before .before .before .before .before .before .before .before .pre .2) (c .before .before .before .put-seen .ensures))
+returns c = rw (c .with-end .ensures, c .before .on .ensures) (alone-ruled (c .before .before .before .before .before .before .before .before .pre .0) _ (c .before .before .before .before .before .before .before .before .pre .1) (c .before .before .before .before .before .before .before .before .pre .2) (c .before .before .before .put-seen .ensures))
+
+with-end-requires : tie.Need-with-end-requires
+with-end-requires c κs = search needs
 
 pub abs-alone-spec : {M : Type 1} → statement M
 abs-alone-spec =
-    tie.close (tie.spec add-put-seen put-seen-requires push-requires add-t16 go-requires returns)
+    tie.close (tie.spec add-put-seen put-seen-requires add-t16 on-requires with-end-requires returns)

@@ -21,13 +21,13 @@ abs-yet-requires : tie.Need-abs-yet-requires
 abs-yet-requires c κs = search needs
 
 returns : tie.Need-returns
-returns c = (c .abs-yet .ensures, c .before .before .before .before .before .before .before .before .before .pre .4)
+returns c = (c .abs-yet .ensures, c .before .before .before .before .before .before .before .before .before .before .before .pre .4)
 
 abs-alone-requires : tie.Need-abs-alone-requires
 abs-alone-requires c κs = search needs
 
 returns-2 : tie.Need-returns-2
-returns-2 c = (c .abs-alone .ensures, c .before .before .before .before .before .before .before .before .before .before .before .pre .4)
+returns-2 c = (c .abs-alone .ensures, c .before .before .before .before .before .before .before .before .before .before .before .before .before .pre .4)
 
 abs-wait-requires : tie.Need-abs-wait-requires
 abs-wait-requires c κs = search needs

@@ -10,12 +10,9 @@ use Rattle.copies.proofs.abs_wait.Statement.{statement}
 use Rattle.copies.proofs.abs_wait.Tie as tie
 use Rattle.copies.proofs.abs_wait.Reads as reads
 use Rattle.copies.proofs.abs_wait.Lts as lts
-use Rattle.frames.proofs.push.Reads as push-reads
-use Rattle.copies.proofs.go.Reads as go-reads
 use Rattle.waiting.proofs.put_seen.Reads as put-seen-reads
 use Rattle.waiting.proofs.put_wait.Reads as put-wait-reads
 use Rattle.waiting.proofs.slot_at.Reads as slot-at-reads
-use Rattle.copies.proofs.stop.Reads as stop-reads
 
 put-wait-requires : tie.Need-put-wait-requires
 put-wait-requires c κs = (wait-asked (c .before .before .before .pre .0 .ready .at) (c .before .before .before .pre .0 .ready .room) (c .before .before .before .pre .0 .high) (c .before .before .before .pre .0 .no-app) (c .before .before .before .pre .0 .ends) (c .before .before .before .pre .1) (c .before .before .before .pre .2), wait-above (c .before .before .before .pre .0 .ready .at) (c .before .before .before .pre .0 .ready .room) (c .before .before .before .pre .0 .high) (c .before .before .before .pre .0 .no-app) (c .before .before .before .pre .0 .ends) (c .before .before .before .pre .1) (c .before .before .before .pre .2))
@@ -35,45 +32,34 @@ sub-slot-at c = omega (arith, wait-above (c .before .before .before .before .bef
 slot-at-requires : tie.Need-slot-at-requires
 slot-at-requires c κs = omega (arith, wait-above (c .before .before .before .before .before .before .before .before .before .before .before .before .before .before .pre .0 .ready .at) (c .before .before .before .before .before .before .before .before .before .before .before .before .before .before .pre .0 .ready .room) (c .before .before .before .before .before .before .before .before .before .before .before .before .before .before .pre .0 .high) (c .before .before .before .before .before .before .before .before .before .before .before .before .before .before .pre .0 .no-app) (c .before .before .before .before .before .before .before .before .before .before .before .before .before .before .pre .0 .ends) (c .before .before .before .before .before .before .before .before .before .before .before .before .before .before .pre .1) (c .before .before .before .before .before .before .before .before .before .before .before .before .before .before .pre .2), c .before .before .before .before .before .before .before .before .before .before .before .before .before .before .pre .0 .ready .at .tops)
 
-stop-requires : tie.Need-stop-requires
-stop-requires c κs = search needs
+finish-requires : tie.Need-finish-requires
+finish-requires c κs = search needs
 
 returns : tie.Need-returns
-returns c = (rw (c .stop .ensures) (wait-ruled-stop (c .before .before .before .before .before .before .before .before .before .before .before .before .before .before .before .before .pre .0) _ (c .before .before .before .before .before .before .before .before .before .before .before .before .before .before .before .before .pre .1) (c .before .before .before .before .before .before .before .before .before .before .before .before .before .before .before .before .pre .2) (c .before .before .before .before .before .before .before .before .before .before .before .before .put-wait .ensures) (c .before .before .before .before .before .before .before .before .before .put-seen .ensures) (c .before .before .before .before .before .compare .ensures .0) (c .before .before .before .if1 .taken) (c .before .slot-at .ensures .0)), c .before .before .before .before .before .compare .ensures .1)
+returns c = (rw (c .with-end .ensures, c .before .finish .ensures) (wait-ruled-stop (c .before .before .before .before .before .before .before .before .before .before .before .before .before .before .before .before .before .pre .0) _ (c .before .before .before .before .before .before .before .before .before .before .before .before .before .before .before .before .before .pre .1) (c .before .before .before .before .before .before .before .before .before .before .before .before .before .before .before .before .before .pre .2) (c .before .before .before .before .before .before .before .before .before .before .before .before .before .put-wait .ensures) (c .before .before .before .before .before .before .before .before .before .before .put-seen .ensures) (c .before .before .before .before .before .before .compare .ensures .0) (c .before .before .before .before .if1 .taken) (c .before .before .slot-at .ensures .0)), c .before .before .before .before .before .before .compare .ensures .1)
 
-push-requires : tie.Need-push-requires
-push-requires c κs = (fewer-entries (c .before .before .before .before .before .before .before .before .before .before .before .before .before .pre .0 .ready .at) (c .before .before .before .before .before .before .before .before .before .before .before .before .before .pre .0 .ready .room) (c .before .before .before .before .before .before .before .before .before .before .before .before .before .pre .0 .high) (c .before .before .before .before .before .before .before .before .before .before .before .before .before .pre .0 .no-app), c .before .before .before .before .before .before .before .before .before .before .before .before .before .pre .0 .ready .at .stored .inside)
-
-sub-t22 : tie.Need-sub-t22
-sub-t22 c = omega (arith, wait-above (c .before .before .before .before .before .before .before .before .before .before .before .before .before .before .before .pre .0 .ready .at) (c .before .before .before .before .before .before .before .before .before .before .before .before .before .before .before .pre .0 .ready .room) (c .before .before .before .before .before .before .before .before .before .before .before .before .before .before .before .pre .0 .high) (c .before .before .before .before .before .before .before .before .before .before .before .before .before .before .before .pre .0 .no-app) (c .before .before .before .before .before .before .before .before .before .before .before .before .before .before .before .pre .0 .ends) (c .before .before .before .before .before .before .before .before .before .before .before .before .before .before .before .pre .1) (c .before .before .before .before .before .before .before .before .before .before .before .before .before .before .before .pre .2))
+sub-t21 : tie.Need-sub-t21
+sub-t21 c = omega (arith, wait-above (c .before .before .before .before .before .before .before .before .before .before .before .before .before .before .pre .0 .ready .at) (c .before .before .before .before .before .before .before .before .before .before .before .before .before .before .pre .0 .ready .room) (c .before .before .before .before .before .before .before .before .before .before .before .before .before .before .pre .0 .high) (c .before .before .before .before .before .before .before .before .before .before .before .before .before .before .pre .0 .no-app) (c .before .before .before .before .before .before .before .before .before .before .before .before .before .before .pre .0 .ends) (c .before .before .before .before .before .before .before .before .before .before .before .before .before .before .pre .1) (c .before .before .before .before .before .before .before .before .before .before .before .before .before .before .pre .2))
 
 add-t28 : tie.Need-add-t28
-add-t28 c = let z = c .before .before .before .before .before .before .before .before .before .before .before .before .before .before .before .before .pre .0 .ready .at in omega (arith, z .cut-bound, z .stored .few)
+add-t28 c = let z = c .before .before .before .before .before .before .before .before .before .before .before .before .before .before .before .pre .0 .ready .at in omega (arith, z .cut-bound, z .stored .few)
 
 add-t29 : tie.Need-add-t29
-add-t29 c = let z = c .before .before .before .before .before .before .before .before .before .before .before .before .before .before .before .before .before .pre .0 .ready .at .reached in omega (arith, z .few, reached-inside z)
+add-t29 c = let z = c .before .before .before .before .before .before .before .before .before .before .before .before .before .before .before .before .pre .0 .ready .at .reached in omega (arith, z .few, reached-inside z)
 
-go-requires : tie.Need-go-requires
-go-requires c κs = search needs
+on-requires : tie.Need-on-requires
+on-requires c κs = search needs
 
 returns-2 : tie.Need-returns-2
-returns-2 c = (rw (c .go .ensures, c .before .before .before .before .push .ensures) (wait-ruled-go (c .before .before .before .before .before .before .before .before .before .before .before .before .before .before .before .before .before .before .pre .0) _ (c .before .before .before .before .before .before .before .before .before .before .before .before .before .before .before .before .before .before .pre .1) (c .before .before .before .before .before .before .before .before .before .before .before .before .before .before .before .before .before .before .pre .2) (c .before .before .before .before .before .before .before .before .before .before .before .before .before .before .put-wait .ensures) (c .before .before .before .before .before .before .before .before .before .before .before .put-seen .ensures) (c .before .before .before .before .before .before .before .compare .ensures .0) (c .before .before .before .before .before .if1 .left)), c .before .before .before .before .before .before .before .compare .ensures .1)
+returns-2 c = (rw (c .with-end2 .ensures, c .before .on .ensures) (wait-ruled-go (c .before .before .before .before .before .before .before .before .before .before .before .before .before .before .before .before .before .before .pre .0) _ (c .before .before .before .before .before .before .before .before .before .before .before .before .before .before .before .before .before .before .pre .1) (c .before .before .before .before .before .before .before .before .before .before .before .before .before .before .before .before .before .before .pre .2) (c .before .before .before .before .before .before .before .before .before .before .before .before .before .before .put-wait .ensures) (c .before .before .before .before .before .before .before .before .before .before .before .put-seen .ensures) (c .before .before .before .before .before .before .before .compare .ensures .0) (c .before .before .before .before .before .if1 .left)), c .before .before .before .before .before .before .before .compare .ensures .1)
+
+with-end-requires : tie.Need-with-end-requires
+with-end-requires c κs = search needs
+
+with-end-requires-2 : tie.Need-with-end-requires-2
+with-end-requires-2 c κs = search needs
 
 pub abs-wait-spec : {M : Type 1} → statement M
 abs-wait-spec =
     tie.close
-    (tie.spec
-    put-wait-requires
-    add-put-seen
-    put-seen-requires
-    compare-requires
-    sub-slot-at
-    slot-at-requires
-    stop-requires
-    returns
-    push-requires
-    sub-t22
-    add-t28
-    add-t29
-    go-requires
-    returns-2)
+    (tie.spec put-wait-requires add-put-seen put-seen-requires compare-requires sub-slot-at slot-at-requires finish-requires with-end-requires returns sub-t21 add-t28 add-t29 on-requires with-end-requires-2 returns-2)

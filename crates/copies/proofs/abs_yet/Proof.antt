@@ -10,8 +10,6 @@ use Rattle.copies.proofs.abs_yet.Statement.{statement}
 use Rattle.copies.proofs.abs_yet.Tie as tie
 use Rattle.copies.proofs.abs_yet.Reads as reads
 use Rattle.copies.proofs.abs_yet.Lts as lts
-use Rattle.frames.proofs.push.Reads as push-reads
-use Rattle.copies.proofs.go.Reads as go-reads
 use Rattle.waiting.proofs.put_seen.Reads as put-seen-reads
 use Rattle.waiting.proofs.put_yet.Reads as put-yet-reads
 
@@ -24,30 +22,22 @@ add-put-seen c = search needs
 put-seen-requires : tie.Need-put-seen-requires
 put-seen-requires c κs = let z = c .before .before .before .before .before .before .pre .0 .ready .at in let d = yet-domain (c .before .before .before .before .before .before .pre .0 .ready .at) (c .before .before .before .before .before .before .pre .0 .ready .room) (c .before .before .before .before .before .before .pre .0 .high) (c .before .before .before .before .before .before .pre .0 .no-app) (c .before .before .before .before .before .before .pre .0 .ends) (c .before .before .before .before .before .before .pre .1) (c .before .before .put-yet .ensures) in let b = abs-bounds (c .before .before .before .before .before .before .pre .0 .ready .at) (c .before .before .before .before .before .before .pre .0 .ready .room) (c .before .before .before .before .before .before .pre .0 .high) (c .before .before .before .before .before .before .pre .0 .no-app) (c .before .before .before .before .before .before .pre .0 .ends) in (omega (arith, d .0, b .1, b .2), omega (arith, z .cut-bound, z .stored .few), d .1)
 
-push-requires : tie.Need-push-requires
-push-requires c κs = (fewer-entries (c .before .before .before .before .before .before .before .pre .0 .ready .at) (c .before .before .before .before .before .before .before .pre .0 .ready .room) (c .before .before .before .before .before .before .before .pre .0 .high) (c .before .before .before .before .before .before .before .pre .0 .no-app), c .before .before .before .before .before .before .before .pre .0 .ready .at .stored .inside)
-
 sub-t18 : tie.Need-sub-t18
 sub-t18 c = search needs
 
 add-t19 : tie.Need-add-t19
-add-t19 c = let z = c .before .before .before .before .before .before .before .before .before .before .pre .0 .ready .at in omega (arith, z .cut-bound, z .stored .few)
+add-t19 c = let z = c .before .before .before .before .before .before .before .before .before .pre .0 .ready .at in omega (arith, z .cut-bound, z .stored .few)
 
-go-requires : tie.Need-go-requires
-go-requires c κs = search needs
+on-requires : tie.Need-on-requires
+on-requires c κs = search needs
 
 returns : tie.Need-returns
-returns c = rw (c .go .ensures, c .before .before .before .push .ensures) (yet-ruled (c .before .before .before .before .before .before .before .before .before .before .before .pre .0) _ (c .before .before .before .before .before .before .before .before .before .before .before .pre .1) (c .before .before .before .before .before .before .before .put-yet .ensures) (c .before .before .before .before .put-seen .ensures))
+returns c = rw (c .with-end .ensures, c .before .on .ensures) (yet-ruled (c .before .before .before .before .before .before .before .before .before .before .before .pre .0) _ (c .before .before .before .before .before .before .before .before .before .before .before .pre .1) (c .before .before .before .before .before .before .before .put-yet .ensures) (c .before .before .before .before .put-seen .ensures))
+
+with-end-requires : tie.Need-with-end-requires
+with-end-requires c κs = search needs
 
 pub abs-yet-spec : {M : Type 1} → statement M
 abs-yet-spec =
     tie.close
-    (tie.spec
-    put-yet-requires
-    add-put-seen
-    put-seen-requires
-    push-requires
-    sub-t18
-    add-t19
-    go-requires
-    returns)
+    (tie.spec put-yet-requires add-put-seen put-seen-requires sub-t18 add-t19 on-requires with-end-requires returns)

@@ -4,6 +4,7 @@ use native.Mathlib.Omega.{arith}
 use borrow.Author.Needs.{needs}
 use Prim.Native.Nat.{_≤_}
 use Rattle.code.proofs.Parts.{stands-start}
+use Rattle.frames.specs.Stored.{recordOf}
 use Rattle.waiting.proofs.Queues.{queue-base}
 use Rattle.copies.proofs.Copy.{in-text}
 use Rattle.copies.proofs.Loop.{is-false, is-true, ready, enoughIn, Going, going-start, now-stated, settles-outgrown, settles-abs, settles-done, settling-on, settling-fewer}
@@ -11,10 +12,10 @@ use Rattle.copies.proofs.settle.Statement.{statement}
 use Rattle.copies.proofs.settle.Tie as tie
 
 abbrev Inv-loop : tie.InvT-loop
-Inv-loop file tb t work ws ys₀ base place f z₀ ys z = Going file t work work ws ys₀ ys base place z₀ f z f × (enoughIn work f z ≤ enoughIn work f z₀)
+Inv-loop file tb t work ws ys₀ base place starts len end z₀ ys z = Going file t work work ws ys₀ ys base place z₀ (recordOf starts len end) z (recordOf starts len end) × (enoughIn work (recordOf starts len end) z ≤ enoughIn work (recordOf starts len end) z₀)
 
 abbrev μ-loop : tie.MeasureT-loop
-μ-loop file tb t work ws ys₀ base place f z₀ ys z = enoughIn work f z
+μ-loop file tb t work ws ys₀ base place starts len end z₀ ys z = enoughIn work (recordOf starts len end) z
 
 loop-holds : tie.Need-loop-holds Inv-loop μ-loop
 loop-holds c = (going-start _ (c .before .before .pre .1), omega arith)
@@ -41,16 +42,16 @@ returns-2 : tie.Need-returns-2 Inv-loop μ-loop
 returns-2 c = rw (c .on .ensures) (settles-abs (c .before .before .before .before .before .before .before .loop .inv .0) (c .before .before .before .before .before .before .before .loop .inv .1) (c .before .before .before .before .fits2 .ensures) (is-true _ (c .before .before .before .if1 .left)) (c .before .if2 .taken))
 
 near-turn-requires : tie.Need-near-turn-requires Inv-loop μ-loop
-near-turn-requires c κs = (c .before .before .before .before .before .before .before .before .before .before .before .before .pre .0, ready (c .before .before .before .before .before .before .fits2 .ensures) (is-true _ (c .before .before .before .before .before .if1 .left)) (now-stated (c .before .before .before .before .before .before .before .before .before .loop .inv .0)), c .before .before .before .if2 .left)
+near-turn-requires c κs = (c .before .before .before .before .before .before .before .before .before .before .pre .0, ready (c .before .before .before .before .fits2 .ensures) (is-true _ (c .before .before .before .if1 .left)) (now-stated (c .before .before .before .before .before .before .before .loop .inv .0)), c .before .if2 .left)
 
 returns-3 : tie.Need-returns-3 Inv-loop μ-loop
-returns-3 c = settles-done (c .before .before .before .before .before .before .before .before .before .before .before .before .loop .inv .0) (c .before .before .before .before .before .before .before .before .before .before .before .before .loop .inv .1) (c .before .before .before .before .before .before .before .before .before .fits2 .ensures) (is-true _ (c .before .before .before .before .before .before .before .before .if1 .left)) (c .before .before .near-turn .ensures) (is-false _ (c .if3 .taken))
+returns-3 c = settles-done (c .before .before .before .before .before .before .before .before .before .before .loop .inv .0) (c .before .before .before .before .before .before .before .before .before .before .loop .inv .1) (c .before .before .before .before .before .before .before .fits2 .ensures) (is-true _ (c .before .before .before .before .before .before .if1 .left)) (c .before .before .near-turn .ensures) (is-false _ (c .if3 .taken))
 
 loop-less : tie.Need-loop-less Inv-loop μ-loop
-loop-less c = settling-fewer (c .before .before .before .before .before .before .before .before .before .before .before .before .before .loop .inv .0) (c .before .before .before .before .before .before .before .before .before .before .before .before .before .loop .inv .1) (c .before .before .before .before .before .before .before .before .before .before .fits2 .ensures) (is-true _ (c .before .before .before .before .before .before .before .before .before .if1 .left)) (c .before .before .before .near-turn .ensures) (is-true _ (c .before .if3 .left))
+loop-less c = settling-fewer (c .before .before .before .before .before .before .before .before .before .before .before .loop .inv .0) (c .before .before .before .before .before .before .before .before .before .before .before .loop .inv .1) (c .before .before .before .before .before .before .before .before .fits2 .ensures) (is-true _ (c .before .before .before .before .before .before .before .if1 .left)) (c .before .before .before .near-turn .ensures) (is-true _ (c .before .if3 .left))
 
 loop-again : tie.Need-loop-again Inv-loop μ-loop
-loop-again c = (settling-on (c .before .before .before .before .before .before .before .before .before .before .before .before .before .loop .inv .0) (c .before .before .before .before .before .before .before .before .before .before .before .before .before .loop .inv .1) (c .before .before .before .before .before .before .before .before .before .before .fits2 .ensures) (is-true _ (c .before .before .before .before .before .before .before .before .before .if1 .left)) (c .before .before .before .near-turn .ensures) (is-true _ (c .before .if3 .left)), omega (arith, settling-fewer (c .before .before .before .before .before .before .before .before .before .before .before .before .before .loop .inv .0) (c .before .before .before .before .before .before .before .before .before .before .before .before .before .loop .inv .1) (c .before .before .before .before .before .before .before .before .before .before .fits2 .ensures) (is-true _ (c .before .before .before .before .before .before .before .before .before .if1 .left)) (c .before .before .before .near-turn .ensures) (is-true _ (c .before .if3 .left)), c .before .before .before .before .before .before .before .before .before .before .before .before .before .loop .inv .1))
+loop-again c = (settling-on (c .before .before .before .before .before .before .before .before .before .before .before .loop .inv .0) (c .before .before .before .before .before .before .before .before .before .before .before .loop .inv .1) (c .before .before .before .before .before .before .before .before .fits2 .ensures) (is-true _ (c .before .before .before .before .before .before .before .if1 .left)) (c .before .before .before .near-turn .ensures) (is-true _ (c .before .if3 .left)), omega (arith, settling-fewer (c .before .before .before .before .before .before .before .before .before .before .before .loop .inv .0) (c .before .before .before .before .before .before .before .before .before .before .before .loop .inv .1) (c .before .before .before .before .before .before .before .before .fits2 .ensures) (is-true _ (c .before .before .before .before .before .before .before .if1 .left)) (c .before .before .before .near-turn .ensures) (is-true _ (c .before .if3 .left)), c .before .before .before .before .before .before .before .before .before .before .before .loop .inv .1))
 
 pub settle-spec : {M : Type 1} → statement M
 settle-spec =
