@@ -1,0 +1,382 @@
+//! The inputs, made by code: the same bytes in every run.
+
+use reference::file::Group;
+use reference::frame::{apply, Entry, Frame, Step, LOCAL, REMOVAL};
+use reference::gen::{self, empty_groups, times};
+use reference::normaliser::{meet, possible_steps, Reduction};
+use reference::term::{abs, app, Term};
+use reference::walk::walk;
+
+pub struct Input {
+    pub name: &'static str,
+    pub what: &'static str,
+    /// The number of the answer: 0, or that of the refusal that the input is about.
+    pub number: u32,
+    pub make: fn() -> Vec<u8>,
+}
+
+const fn accepted(name: &'static str, what: &'static str, make: fn() -> Vec<u8>) -> Input {
+    Input { name, what, number: 0, make }
+}
+
+const fn refused(name: &'static str, what: &'static str, number: u32, make: fn() -> Vec<u8>) -> Input {
+    Input { name, what, number, make }
+}
+
+pub const ALL: [Input; 17] = [
+    accepted("small", "small file (E3 of document 01)", small),
+    accepted("book1", "book of 1 KB", || book(1023, 0, SHORT)),
+    accepted("book2", "book of 2 KB", || book(2047, 0, SHORT)),
+    accepted("book4", "book of 4 KB", || book(4095, 0, SHORT)),
+    accepted("book6.6", "book, a file of 6.6 KB", || book(2310, 12, LONG)),
+    accepted("steps65", "65 KB, mostly steps, bodies of 187 bytes", many_steps),
+    accepted("steps4k", "20,000 steps all over bodies of 4 KB", steps_all_over),
+    accepted("nestU", "2,047 deep in U", || gen::file(&gen::nested(2047), &[])),
+    refused("nestK", "2,047 deep in K", 8, nested_k),
+    accepted("nestKC", "2,000 deep in K, each compared", nested_compared),
+    accepted("waiting", "963 waiting in 4 lists, all taken", waiting_lists),
+    refused("waiting8", "1,790 waiting, 240 taken", 8, waiting_refused),
+    accepted("runs", "long copied runs, up to 110 in Y", || copied_runs(110, 800)),
+    accepted("(1)", "(1) 247 typings, 899 times", || chain_of_types(247, 899)),
+    accepted("(2)", "(2) 220 pairs and an abstractor, 800 times", || used_pairs(220, 800)),
+    accepted("(3)", "(3) to 4,096 bytes and back, near the front", || up_and_back(200, 40)),
+    accepted("(4)", "(4) 1,500 bytes before 1,298 variables", long_declaration),
+];
+
+fn joined(parts: &[&[u8]]) -> Vec<u8> {
+    parts.concat()
+}
+
+fn local(place: usize) -> Step {
+    Step { kind: LOCAL, place }
+}
+
+fn removal(place: usize) -> Step {
+    Step { kind: REMOVAL, place }
+}
+
+fn group(left: Vec<Step>, right: Vec<Step>) -> Group {
+    Group { head: 0, left, right }
+}
+
+fn small() -> Vec<u8> {
+    let term = [0xff, 0, 0xff, 1, 0xfe, 2, 0xff, 0, 0xfe, 2, 0xff, 1, 1];
+    gen::file(&term, &[group(vec![], vec![]), group(vec![], vec![local(0)])])
+}
+
+// ---- Books.
+
+/// Reads `<K>`, `[x:U]`, `*` for tau, and names, with the names in scope.
+fn read(text: &mut &[u8], scope: &mut Vec<String>) -> Term {
+    if skip(text, b'*') {
+        return Term::Tau;
+    }
+    if skip(text, b'<') {
+        let k = read(text, scope);
+        assert!(skip(text, b'>'));
+        return app(k, read(text, scope));
+    }
+    if skip(text, b'[') {
+        let name = read_name(text);
+        assert!(skip(text, b':'));
+        let u = read(text, scope);
+        assert!(skip(text, b']'));
+        scope.push(name);
+        let rest = read(text, scope);
+        scope.pop();
+        return abs(u, rest);
+    }
+    let name = read_name(text);
+    let outward = scope.iter().rev().position(|known| *known == name);
+    Term::Var(1 + outward.expect("a name is in scope") as u64)
+}
+
+/// Whether this byte is next; then it is passed.
+fn skip(text: &mut &[u8], byte: u8) -> bool {
+    let next = text[0] == byte;
+    *text = &text[usize::from(next)..];
+    next
+}
+
+fn read_name(text: &mut &[u8]) -> String {
+    let length = text.iter().take_while(|b| b.is_ascii_alphanumeric()).count();
+    let name = String::from_utf8(text[..length].to_vec()).expect("ASCII");
+    *text = &text[length..];
+    name
+}
+
+/// A book of at most this many bytes: numbers, functions on them, and proofs by one lemma. Definitions, applications and
+/// declarations in turn, with `primitive` declarations that apply nothing in each turn. The steps are those of an author.
+fn book(bytes: usize, primitive: usize, effort: Effort) -> Vec<u8> {
+    let mut text = String::from(
+        "[nat:*][z:nat][s:[x:nat]nat][P:[x:nat]*][i:[x:nat][h:<x>P]<<x>s>P][b:<z>P]<z>[n0:nat]<b>[p0:<n0>P]",
+    );
+    for i in 1.. {
+        let last = i - 1;
+        let mut lines = vec![
+            format!("<<n{last}>s>[n{i}:nat]"),
+            format!("<<p{last}><n{last}>i>[p{i}:<n{i}>P]"),
+            format!("<[x:nat]<<<x>s>s>s>[f{i}:[x:nat]nat]"),
+            format!("<[x:nat][h:<x>P]<<<h><x>i><<x>s>i><<<x>s>s>i>[q{i}:[x:nat][h:<x>P]<<<<x>s>s>s>P]"),
+            format!("<<n{i}>f{i}>[m{i}:nat]"),
+            format!("<<p{i}><n{i}>q{i}>[r{i}:<m{i}>P]"),
+            format!("[d{i}:[x:nat][y:nat][h:<x>P][g:<y>P]<<<<x>f{i}>f{i}>f{i}>P]"),
+            format!("<[x:nat][h:<x>P]<<h><x>q{i}><<x>f{i}>q{i}>[t{i}:[x:nat][h:<x>P]<<<x>f{i}>f{i}>P]"),
+        ];
+        lines.extend((0..primitive).map(|j| format!("[c{i}x{j}:[x:nat][y:nat][k:[u:nat][v:nat]nat][l:[u:nat]nat]nat]")));
+        for line in lines {
+            let longer = format!("{text}{line}");
+            let term = read_all(&longer);
+            // Copied text needs some scopes more.
+            if term.size() > bytes || term.deepest_scope(0) > 245 {
+                return stepped(&read_all(&text), effort);
+            }
+            text = longer;
+        }
+    }
+    unreachable!()
+}
+
+fn read_all(text: &str) -> Term {
+    read(&mut format!("{text}*").as_bytes(), &mut Vec::new())
+}
+
+/// How an author reduces: how many names are replaced on each side in search of a form that both reach, and whether the first
+/// such form is taken or the last.
+#[derive(Clone, Copy)]
+struct Effort {
+    names: usize,
+    far: bool,
+}
+
+const SHORT: Effort = Effort { names: 4, far: false };
+const LONG: Effort = Effort { names: 9, far: true };
+
+/// The file of a term, with steps found for each comparison.
+fn stepped(term: &Term, effort: Effort) -> Vec<u8> {
+    let mut groups = Vec::new();
+    let (_, end) = walk(term, &mut |frame, type_of_k, u| {
+        let left = reduce(frame, type_of_k, effort.names);
+        let right = reduce(frame, u, effort.names);
+        let (left, right) = meet(&left, &right, effort.far).expect("the sides meet");
+        groups.push(group(left, right));
+        groups.last().cloned()
+    });
+    assert!(end.is_ok(), "a book is correct");
+    gen::file(&term.bytes(), &groups)
+}
+
+/// The body's own pairs first, then the last name.
+fn reduce(frame: &Frame, body: &Term, names: usize) -> Reduction {
+    let unnamed: Frame = frame.iter().map(|entry| Entry::Single(entry.u().clone())).collect();
+    let mut reduction = Reduction { bodies: vec![body.clone()], steps: Vec::new() };
+    let mut names = names;
+    loop {
+        let last = reduction.bodies.last().expect("there is a first body");
+        let own = possible_steps(&unnamed, last);
+        let step = match own.iter().find(|step| step.kind == REMOVAL).or(own.first()) {
+            Some(&step) => step,
+            None => match possible_steps(frame, last).last() {
+                Some(&step) if names > 0 => {
+                    names -= 1;
+                    step
+                }
+                _ => return reduction,
+            },
+        };
+        let next = apply(frame, last, step).expect("a possible step can be applied");
+        reduction.bodies.push(next);
+        reduction.steps.push(step);
+    }
+}
+
+// ---- Steps.
+
+/// A chain of 222 names, unfolded at each of its uses.
+fn many_steps() -> Vec<u8> {
+    let (term, groups) = gen::long_unfolding(222, 94);
+    gen::file(&term, &groups)
+}
+
+/// As many uses of a variable, nested: [[[v]v]v]v.
+fn uses_of(index: u8, uses: usize) -> Vec<u8> {
+    let nest = uses - 1;
+    joined(&[&vec![0xff; nest], &[index], &vec![index + 1; nest]])
+}
+
+/// A definition of type *, <<[N]x>[d:[N]*]x>[D:*], where x has this index outside.
+fn big_definition(n: &[u8], x: u8) -> Vec<u8> {
+    joined(&[&[0xfe, 0xfe, 0xff], n, &[x + 1, 0xff, 0xff], n, &[0, x + 1, 0xff, 0]])
+}
+
+/// Five names for x, a definition D with hundreds of uses of the last name, and [D][D][D]* compared with itself: D is unfolded,
+/// then every name, from left to right, by five steps each, on both sides.
+fn steps_all_over() -> Vec<u8> {
+    const NAMES: usize = 5;
+    const USES: usize = 335;
+    let n = uses_of(1, USES);
+    let d = big_definition(&n, NAMES as u8 + 1);
+    let term = joined(&[
+        &[0xff, 0],
+        &times(NAMES, &[0xfe, 1, 0xff, 0]),
+        &d,
+        &[0xff, 0xff, 1, 0xff, 2, 0xff, 3, 0],
+        &[0xfe, 1, 0xff, 0xff, 2, 0xff, 3, 0xff, 4, 0, 0],
+    ]);
+    let size = d.len() - 3;
+    let mut steps: Vec<Step> = (0..3).map(|i| local(1 + i * (1 + size))).collect();
+    for copy in 0..3 {
+        let at = 1 + copy * (1 + size);
+        for part in [at + 2, at + 2 + n.len() + 3] {
+            for place in part + USES - 1..part + n.len() {
+                steps.extend(vec![local(place); NAMES]);
+            }
+        }
+    }
+    let mut groups = empty_groups(NAMES);
+    groups.push(group(vec![], vec![]));
+    groups.push(group(vec![removal(0)], vec![]));
+    groups.push(group(steps.clone(), steps));
+    gen::file(&term, &groups)
+}
+
+/// A definition D of 1,081 bytes, and a type with `pairs` times <D>[*] before [D][D]*. Compared `count` times with [D][D]*: the
+/// two last are unfolded, then each pair's D is unfolded and the pair removed, at places 1 and 0.
+fn up_and_back(pairs: usize, count: usize) -> Vec<u8> {
+    let n = gen::nested(268);
+    let d = big_definition(&n, 1);
+    let size = d.len() - 3;
+    let mut term = joined(&[&[0xff, 0], &d, &[0xff]]);
+    for i in 0..pairs {
+        term.extend([0xfe, 1 + i as u8, 0xff, 0]);
+    }
+    term.extend([0xff, 1 + pairs as u8, 0xff, 2 + pairs as u8, 0]);
+    for i in 0..count as u8 {
+        term.extend([0xfe, 1 + i, 0xff, 0xff, 2 + i, 0xff, 3 + i, 0]);
+    }
+    term.push(0);
+    let mut left = vec![local(4 * pairs + 1), local(4 * pairs + 2 + size)];
+    for _ in 0..pairs {
+        left.extend([local(1), removal(0)]);
+    }
+    let right = vec![local(1), local(2 + size)];
+    let mut groups = vec![group(vec![], vec![]), group(vec![removal(0)], vec![])];
+    groups.extend(empty_groups(pairs));
+    for _ in 0..count {
+        groups.push(group(left.clone(), right.clone()));
+    }
+    gen::file(&term, &groups)
+}
+
+// ---- Nesting and waiting.
+
+fn nested_k() -> Vec<u8> {
+    gen::file(&joined(&[&[0xfe; 2047], &[0; 2048]]), &[])
+}
+
+/// [p:*][a:p][f:[x:p]p] and f of f of .. of a.
+fn nested_compared() -> Vec<u8> {
+    const DEEP: usize = 2000;
+    let term = joined(&[&[0xff, 0, 0xff, 1, 0xff, 0xff, 2, 3], &[0xfe; DEEP], &[2], &[1; DEEP]]);
+    // The inmost argument is a; each other has the type <K>[x:p]p.
+    let mut groups = vec![group(vec![], vec![])];
+    groups.extend(vec![group(vec![removal(0)], vec![]); DEEP - 1]);
+    gen::file(&term, &groups)
+}
+
+/// [p:*][a:p] and four trains of 240 applicators <a>, then abstractors [p] that take them. Each train but the first is the last
+/// applicator of the one outside it, so that four lists wait at once.
+fn waiting_lists() -> Vec<u8> {
+    const LISTS: usize = 4;
+    const LENGTH: usize = 240;
+    let mut term = vec![0xff, 0, 0xff, 1];
+    for _ in 1..LISTS {
+        term.extend(times(LENGTH, &[0xfe, 1]));
+        term.push(0xfe);
+    }
+    term.extend(times(LENGTH, &[0xfe, 1]));
+    for list in 0..LISTS {
+        // Abstractors of p for those that wait, and one more where a list's result is the last argument.
+        let taken = LENGTH + (list > 0) as usize;
+        for i in 0..taken {
+            term.extend([0xff, 2 + i as u8]);
+        }
+        term.push(1 + taken as u8);
+    }
+    let mut groups = Vec::new();
+    for list in 0..LISTS {
+        // The inner list's result, a after 240 pairs, is taken first; its type is that train before p.
+        if list > 0 {
+            let pairs = LENGTH + (list > 1) as usize;
+            groups.push(group(pair_removals(pairs), vec![]));
+        }
+        groups.extend(empty_groups(LENGTH));
+    }
+    gen::file(&term, &groups)
+}
+
+/// Removes the pairs of <a>..<a>[p]..[p]: each time the inmost.
+fn pair_removals(pairs: usize) -> Vec<Step> {
+    (0..pairs).rev().map(|i| removal(2 * i)).collect()
+}
+
+/// [p:*][a:p], 1,790 times <a>, 240 times [p], and tau: something still waits.
+fn waiting_refused() -> Vec<u8> {
+    let mut term = joined(&[&[0xff, 0, 0xff, 1], &times(1790, &[0xfe, 1])]);
+    for i in 0..240 {
+        term.extend([0xff, 2 + i as u8]);
+    }
+    term.push(0);
+    gen::file(&term, &empty_groups(240))
+}
+
+// ---- Copied text.
+
+/// `uses` times <a>f, nested: [[<a>f]<a>f]<a>f, where a and f have these indices outside.
+fn applications(a: u8, f: u8, uses: usize) -> Vec<u8> {
+    let nest = uses - 1;
+    joined(&[&vec![0xff; nest], &[0xfe, a, f], &times(nest, &[0xfe, a + 1, f + 1])])
+}
+
+/// [p:*][a:p], declarations, the first of [x:p]*, each other of the one before, and applications of the last to a.
+fn chain_of_types(declarations: usize, uses: usize) -> Vec<u8> {
+    let term = joined(&[
+        &[0xff, 0, 0xff, 1, 0xff, 0xff, 2, 0],
+        &times(declarations - 1, &[0xff, 1]),
+        &applications(declarations as u8 + 1, 1, uses),
+    ]);
+    gen::file(&term, &empty_groups(uses))
+}
+
+/// [p:*][a:p][f:<a>..<a>[p]..[p]<a>..<a>[p]..[p][x:p]*], `long` times each, and applications of f to a.
+fn copied_runs(long: usize, uses: usize) -> Vec<u8> {
+    let mut term = vec![0xff, 0, 0xff, 1, 0xff];
+    for passed in [0, long as u8] {
+        term.extend(times(long, &[0xfe, 1 + passed]));
+        for i in 0..long as u8 {
+            term.extend([0xff, 2 + passed + i]);
+        }
+    }
+    term.extend([0xff, 2 + 2 * long as u8, 0]);
+    term.extend(applications(2, 1, uses));
+    gen::file(&term, &empty_groups(2 * long + uses))
+}
+
+/// [p:*][a:p][f:<a>[p]<a>[p]..[x:p]*] and applications of f to a.
+fn used_pairs(pairs: usize, uses: usize) -> Vec<u8> {
+    let mut term = vec![0xff, 0, 0xff, 1, 0xff];
+    for i in 0..pairs as u8 {
+        term.extend([0xfe, 1 + i, 0xff, 2 + i]);
+    }
+    term.extend([0xff, 2 + pairs as u8, 0]);
+    term.extend(applications(2, 1, uses));
+    gen::file(&term, &empty_groups(pairs + uses))
+}
+
+/// [f:[N]*] of 1,500 bytes, and f as often as there is room.
+fn long_declaration() -> Vec<u8> {
+    let n = gen::nested(748);
+    let uses = (4095 - n.len() - 3 + 1) / 2;
+    let term = joined(&[&[0xff, 0xff], &n, &[0], &uses_of(1, uses)]);
+    gen::file(&term, &[])
+}
