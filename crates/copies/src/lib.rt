@@ -10,14 +10,14 @@ ghost use Rattle.compare.specs.Sides.{Buffers};
 ghost use Rattle.copies.specs.Contracts.{nearStop, nearGo, withFrame, entering, AbsReady, Ready, Stated, Ruled, Settles, Copies};
 use compare::compare;
 use frames::FrameRecord;
+use frames::end_of;
 use frames::entry_at_by;
 use frames::push;
+use indices::larger;
 use indices::measure;
 use waiting::Slot;
-use waiting::end_of;
 use waiting::figures_of;
 use waiting::fits;
-use waiting::larger;
 use waiting::note;
 use waiting::put_seen;
 use waiting::put_wait;
@@ -472,7 +472,7 @@ fn settle(
     }
 }
 
-// Copied text, from a state on.
+// Copied text, from a state on. The frame is lent in its parts, and grows in a record of this function.
 pub fn copied(
     file: &[u8],
     tb: &[i32; 256],
@@ -485,13 +485,20 @@ pub fn copied(
     base: usize,
     place: usize,
     s: Copying,
-    f: FrameRecord,
+    starts: &[u16; 253],
+    len: usize,
+    end: usize,
 ) -> Walked
-    requires { ⌜ Tabled (now tb) × Stated (now file) (now t) (now work) (now ws) (now ys) base s f × Buffers (now left) (now right) ⌝ }
-    ensures { λ r. ⌜ Copies (now (file .entry)) (now (t .entry)) (now (work .entry)) (now (work .exit)) (now (ws .entry)) (now (ys .entry)) (now (ys .exit)) base place s f r × Buffers (now (left .exit)) (now (right .exit)) ⌝ }
+    requires { ⌜ Tabled (now tb) × Stated (now file) (now t) (now work) (now ws) (now ys) base s (recordOf (now starts) len end) × Buffers (now left) (now right) ⌝ }
+    ensures { λ r. ⌜ Copies (now (file .entry)) (now (t .entry)) (now (work .entry)) (now (work .exit)) (now (ws .entry)) (now (ys .entry)) (now (ys .exit)) base place s (recordOf (now (starts .entry)) len end) r × Buffers (now (left .exit)) (now (right .exit)) ⌝ }
 {
     let mut z = s;
-    let mut g = f;
+    let own = *starts;
+    let mut g = FrameRecord {
+        starts: own,
+        len,
+        end,
+    };
     loop {
         let r = settle(
             file,

@@ -55,7 +55,7 @@ fn wide(x: u16) -> usize
 }
 
 // Where the term that starts at p ends.
-fn end_of(t: &[i32; 256], work: &[u8; 8192], p: usize) -> usize
+pub fn end_of(t: &[i32; 256], work: &[u8; 8192], p: usize) -> usize
     requires { ⌜ Tabled (now t) × Standing (now work) p ⌝ }
     ensures { λ r. ⌜ EndAt (now (work .entry)) p r ⌝ }
 {

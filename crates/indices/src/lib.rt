@@ -28,7 +28,7 @@ fn scope_of(d: u16) -> usize
     d as usize
 }
 
-fn larger(x: usize, y: usize) -> usize
+pub fn larger(x: usize, y: usize) -> usize
     ensures { λ r. ⌜ r ≡ max x y ⌝ }
 {
     if x < y { y } else { x }

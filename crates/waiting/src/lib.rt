@@ -4,11 +4,8 @@ ghost use mathlib.Core.Bool.{false};
 ghost use Prim.Native.Nat.{_+_, _-_, _*_, _≤_, _<_, max};
 ghost use lib.ListN.{length};
 ghost use Rattle.code.specs.Limits.{longestState};
-ghost use Rattle.code.specs.Code.{Tabled};
-ghost use Rattle.frames.specs.Stored.{Standing, EndAt};
 ghost use Rattle.waiting.specs.Waiting.{queueLength, slotOf, within, SmallSlot, Noted, Figured, Fitted, Moved, Writable, Puts, TopAsked, TopPut};
-use code::End;
-use code::term_end_by;
+use indices::larger;
 use indices::lift_above;
 use indices::lift_in_place;
 
@@ -34,12 +31,6 @@ pub fn wide16(x: u16) -> usize
     ensures { λ r. ⌜ (r ≡ x) × (r < 65536) ⌝ }
 {
     x as usize
-}
-
-pub fn larger(x: usize, y: usize) -> usize
-    ensures { λ r. ⌜ r ≡ max x y ⌝ }
-{
-    if x < y { y } else { x }
 }
 
 // ---- Waiting applicators.
@@ -229,16 +220,4 @@ pub fn put_yet(
         v.cut,
         d - v.depth,
     )
-}
-
-// Where the term that starts at p ends.
-pub fn end_of(tb: &[i32; 256], work: &[u8; 8192], p: usize) -> usize
-    requires { ⌜ Tabled (now tb) × Standing (now work) p ⌝ }
-    ensures { λ r. ⌜ EndAt (now (work .entry)) p r ⌝ }
-{
-    let all = &work[..];
-    let End::At(e) = term_end_by(tb, all, p) else {
-        return p;
-    };
-    e
 }

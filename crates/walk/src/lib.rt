@@ -3,6 +3,7 @@ ghost use mathlib.Core.Path.{_≡_};
 ghost use Prim.Native.Nat.{_+_, _-_, _≤_, _<_};
 ghost use lib.ListN.{length, getD};
 ghost use Rattle.code.specs.Code.{Tabled};
+ghost use Rattle.frames.specs.Stored.{recordOf};
 ghost use Rattle.compare.specs.Sides.{Buffers};
 ghost use Rattle.walk.specs.State.{Sized};
 ghost use Rattle.walk.specs.Contracts.{OwnStated, OwnReady, InnerEnd, AbsHere, Passes, Ends, Checks, SizedFrom, TermAt, FigureAt, WholeTerm, Walkable, WalkAnswer};
@@ -16,12 +17,12 @@ use frames::FrameRecord;
 use frames::empty_frame;
 use frames::entry_at_by;
 use frames::push;
+use indices::larger;
 use indices::measure;
 use waiting::Figures;
 use waiting::Slot;
 use waiting::figures_of;
 use waiting::fits;
-use waiting::larger;
 use waiting::note;
 use waiting::put_own;
 use waiting::put_wait;
@@ -226,15 +227,17 @@ fn variable(
     base: usize,
     top: usize,
     at: usize,
-    f: FrameRecord,
+    starts: &[u16; 253],
+    len: usize,
+    end: usize,
     next: usize,
     count: usize,
 ) -> Walked
-    requires { ⌜ Tabled (now tb) × OwnReady (now file) (now t) (now work) (now ws) (now ys) base top at f next count × (getD (now t) at 0 ≡ 0 → ⊥) × (getD (now t) at 0 < 0xfe) × Buffers (now left) (now right) ⌝ }
-    ensures { λ r. ⌜ Ends (now (file .entry)) (now (t .entry)) (now (work .entry)) (now (work .exit)) (now (ws .entry)) (now (ys .entry)) (now (ys .exit)) base top at f next count r × Buffers (now (left .exit)) (now (right .exit)) ⌝ }
+    requires { ⌜ Tabled (now tb) × OwnReady (now file) (now t) (now work) (now ws) (now ys) base top at (recordOf (now starts) len end) next count × (getD (now t) at 0 ≡ 0 → ⊥) × (getD (now t) at 0 < 0xfe) × Buffers (now left) (now right) ⌝ }
+    ensures { λ r. ⌜ Ends (now (file .entry)) (now (t .entry)) (now (work .entry)) (now (work .exit)) (now (ws .entry)) (now (ys .entry)) (now (ys .exit)) base top at (recordOf (now (starts .entry)) len end) next count r × Buffers (now (left .exit)) (now (right .exit)) ⌝ }
 {
     let k = wide(t[at]);
-    let e = entry_at_by(tb, work, &f.starts, f.len, f.end, k);
+    let e = entry_at_by(tb, work, starts, len, end, k);
     let all = &work[..];
     let m = measure(all, e.domain, e.end);
     let s = Copying {
@@ -248,7 +251,22 @@ fn variable(
         next,
         comparisons: count,
     };
-    copied(file, tb, t, work, ws, ys, left, right, base, at, s, f)
+    copied(
+        file,
+        tb,
+        t,
+        work,
+        ws,
+        ys,
+        left,
+        right,
+        base,
+        at,
+        s,
+        starts,
+        len,
+        end,
+    )
 }
 
 // The end of the term's own text: τ or a variable at `at`.
@@ -264,14 +282,16 @@ fn last(
     base: usize,
     top: usize,
     at: usize,
-    f: FrameRecord,
+    starts: &[u16; 253],
+    len: usize,
+    end: usize,
     next: usize,
     count: usize,
 ) -> Walked
-    requires { ⌜ Tabled (now tb) × OwnStated (now file) (now t) (now work) (now ws) (now ys) base top at f next count × (getD (now t) at 0 < 0xfe) × Buffers (now left) (now right) ⌝ }
-    ensures { λ r. ⌜ Checks (now (file .entry)) (now (t .entry)) (now (work .entry)) (now (work .exit)) (now (ws .entry)) (now (ws .entry)) (now (ys .entry)) (now (ys .exit)) base top at f next count r × Buffers (now (left .exit)) (now (right .exit)) ⌝ }
+    requires { ⌜ Tabled (now tb) × OwnStated (now file) (now t) (now work) (now ws) (now ys) base top at (recordOf (now starts) len end) next count × (getD (now t) at 0 < 0xfe) × Buffers (now left) (now right) ⌝ }
+    ensures { λ r. ⌜ Checks (now (file .entry)) (now (t .entry)) (now (work .entry)) (now (work .exit)) (now (ws .entry)) (now (ws .entry)) (now (ys .entry)) (now (ys .exit)) base top at (recordOf (now (starts .entry)) len end) next count r × Buffers (now (left .exit)) (now (right .exit)) ⌝ }
 {
-    if !fits(ws, ys, base, top, 0, f.end, f.len, 1, 0) {
+    if !fits(ws, ys, base, top, 0, end, len, 1, 0) {
         return halt(11, at, count, next);
     }
     if t[at] != 0 {
@@ -287,7 +307,9 @@ fn last(
             base,
             top,
             at,
-            f,
+            starts,
+            len,
+            end,
             next,
             count,
         );
@@ -377,7 +399,24 @@ fn term(
         w = q.top;
         i = q.at;
     }
-    last(file, tb, t, work, ws, ys, left, right, base, w, i, f, n, k)
+    last(
+        file,
+        tb,
+        t,
+        work,
+        ws,
+        ys,
+        left,
+        right,
+        base,
+        w,
+        i,
+        &f.starts,
+        f.len,
+        f.end,
+        n,
+        k,
+    )
 }
 
 // The inside of an applicator or an abstractor: nothing waits.

@@ -9,7 +9,7 @@ use Rattle.copies.proofs.abs_turn.Lts as lts
 use Rattle.copies.proofs.abs_alone.Reads as abs-alone-reads
 use Rattle.copies.proofs.abs_wait.Reads as abs-wait-reads
 use Rattle.copies.proofs.abs_yet.Reads as abs-yet-reads
-use Rattle.waiting.proofs.end_of.Reads as end-of-reads
+use Rattle.frames.proofs.end_of.Reads as end-of-reads
 
 add-end-of : tie.Need-add-end-of
 add-end-of c = search needs

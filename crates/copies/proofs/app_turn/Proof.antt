@@ -9,10 +9,10 @@ use Rattle.copies.proofs.app_turn.Tie as tie
 use Rattle.copies.proofs.app_turn.Reads as reads
 use Rattle.copies.proofs.app_turn.Lts as lts
 use Rattle.indices.proofs.measure.Reads as measure-reads
-use Rattle.waiting.proofs.end_of.Reads as end-of-reads
+use Rattle.frames.proofs.end_of.Reads as end-of-reads
 use Rattle.waiting.proofs.figures_of.Reads as figures-of-reads
 use Rattle.copies.proofs.on.Reads as on-reads
-use Rattle.waiting.proofs.larger.Reads as larger-reads
+use Rattle.indices.proofs.larger.Reads as larger-reads
 use Rattle.waiting.proofs.note.Reads as note-reads
 
 add-end-of : tie.Need-add-end-of

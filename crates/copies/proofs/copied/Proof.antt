@@ -8,22 +8,22 @@ use Rattle.copies.proofs.copied.Statement.{statement}
 use Rattle.copies.proofs.copied.Tie as tie
 
 abbrev Inv-loop : tie.InvT-loop
-Inv-loop file tb t work₀ ws ys₀ left₀ right₀ base place z₀ g₀ work ys left right z g = Going file t work₀ work ws ys₀ ys base place z₀ g₀ z g × Buffers left right
+Inv-loop file tb t work₀ ws ys₀ left₀ right₀ base place starts len end z₀ g₀ work ys left right z g = Going file t work₀ work ws ys₀ ys base place z₀ g₀ z g × Buffers left right
 
 abbrev μ-loop : tie.MeasureT-loop
-μ-loop file tb t work₀ ws ys₀ left₀ right₀ base place z₀ g₀ work ys left right z g = enoughIn work g z
+μ-loop file tb t work₀ ws ys₀ left₀ right₀ base place starts len end z₀ g₀ work ys left right z g = enoughIn work g z
 
 loop-holds : tie.Need-loop-holds Inv-loop μ-loop
-loop-holds c = (going-start _ (c .before .before .pre .1), c .before .before .pre .2)
+loop-holds c = (going-start _ (c .before .before .before .pre .1), c .before .before .before .pre .2)
 
 settle-requires : tie.Need-settle-requires Inv-loop μ-loop
-settle-requires c κs = (c .before .before .before .before .before .before .before .pre .0, now-stated (c .before .before .before .before .loop .inv .0))
+settle-requires c κs = (c .before .before .before .before .before .before .before .before .pre .0, now-stated (c .before .before .before .before .loop .inv .0))
 
 returns : tie.Need-returns Inv-loop μ-loop
 returns c = (going-done (c .before .before .before .before .before .before .before .before .loop .inv .0) (turns-settled (now-stated (c .before .before .before .before .before .before .before .before .loop .inv .0)) (c .before .before .before .settle .ensures) (is-false _ (c .before .if1 .taken))) (is-false _ (c .before .if1 .taken)), c .before .before .before .before .before .before .before .before .loop .inv .1)
 
 abs-turn-requires : tie.Need-abs-turn-requires Inv-loop μ-loop
-abs-turn-requires c κs = let q = settled-ready (now-stated (c .before .before .before .before .before .before .before .before .before .before .before .before .loop .inv .0)) (c .before .before .before .before .before .before .before .settle .ensures) (is-true _ (c .before .before .before .before .before .if1 .left)) in (c .before .before .before .before .before .before .before .before .before .before .before .before .before .before .before .pre .0, q .0, omega (arith, q .1), λ e. omega (arith, q .1, e), c .before .before .before .before .before .before .before .before .before .before .before .before .loop .inv .1)
+abs-turn-requires c κs = let q = settled-ready (now-stated (c .before .before .before .before .before .before .before .before .before .before .before .before .loop .inv .0)) (c .before .before .before .before .before .before .before .settle .ensures) (is-true _ (c .before .before .before .before .before .if1 .left)) in (c .before .before .before .before .before .before .before .before .before .before .before .before .before .before .before .before .pre .0, q .0, omega (arith, q .1), λ e. omega (arith, q .1, e), c .before .before .before .before .before .before .before .before .before .before .before .before .loop .inv .1)
 
 returns-2 : tie.Need-returns-2 Inv-loop μ-loop
 returns-2 c = (going-done (c .before .before .before .before .before .before .before .before .before .before .before .before .before .before .before .before .loop .inv .0) (turns-past (now-stated (c .before .before .before .before .before .before .before .before .before .before .before .before .before .before .before .before .loop .inv .0)) (c .before .before .before .before .before .before .before .before .before .before .before .settle .ensures) (is-true _ (c .before .before .before .before .before .before .before .before .before .if1 .left)) (c .before .before .before .abs-turn .ensures .0)) (is-false _ (c .before .if2 .taken)), c .before .before .before .abs-turn .ensures .1)

@@ -8,7 +8,7 @@ use Rattle.waiting.proofs.fits.Tie as tie
 use Rattle.waiting.proofs.fits.Reads as reads
 use Rattle.waiting.proofs.fits.Lts as lts
 use Rattle.waiting.proofs.figures_of.Reads as figures-of-reads
-use Rattle.waiting.proofs.larger.Reads as larger-reads
+use Rattle.indices.proofs.larger.Reads as larger-reads
 
 figures-of-requires : tie.Need-figures-of-requires
 figures-of-requires c κs = search needs

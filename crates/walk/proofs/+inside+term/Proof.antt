@@ -310,7 +310,7 @@ term-last-requires : (t : ℕ) → term-lts.Need-last-requires (
   last-reads.Asked,
   last-reads.Learnt,
 ) (term-at t) term.Post term-Inv-loop term-μ-loop
-term-last-requires t c κs = (c .before .before .before .before .before .before .before .before .before .before .pre .1 .0, (c .before .before .before .before .before .before .before .loop .inv .0 .now), c .before .before .before .before .before .if1 .left, c .before .before .before .before .before .before .before .loop .inv .1)
+term-last-requires t c κs = (c .before .before .before .before .before .before .before .before .before .before .before .before .pre .1 .0, (c .before .before .before .before .before .before .before .before .before .loop .inv .0 .now), c .before .before .before .before .before .before .before .if1 .left, c .before .before .before .before .before .before .before .before .before .loop .inv .1)
 
 term-returns-4 : (t : ℕ) → term-lts.Need-returns-4 (
   wide16-reads.Asked,
@@ -326,7 +326,7 @@ term-returns-4 : (t : ℕ) → term-lts.Need-returns-4 (
   last-reads.Asked,
   last-reads.Learnt,
 ) (term-at t) term.Post term-Inv-loop term-μ-loop
-term-returns-4 t c = (c .before .before .before .before .before .before .before .before .loop .inv .0 .rest _ _ _ _ (c .last .ensures .0), c .last .ensures .1)
+term-returns-4 t c = (c .before .before .before .before .before .before .before .before .before .before .loop .inv .0 .rest _ _ _ _ (c .last .ensures .0), c .last .ensures .1)
 
 pub +inside+term-spec : {M : Type 1} → statement M
 +inside+term-spec =

@@ -9,7 +9,7 @@ use Rattle.walk.proofs.figure.Statement.{statement}
 use Rattle.walk.proofs.figure.Tie as tie
 use Rattle.walk.proofs.figure.Reads as reads
 use Rattle.walk.proofs.figure.Lts as lts
-use Rattle.waiting.proofs.larger.Reads as larger-reads
+use Rattle.indices.proofs.larger.Reads as larger-reads
 use Rattle.waiting.proofs.wide16.Reads as wide16-reads
 
 shared-slice-read-b : tie.Need-shared-slice-read-b

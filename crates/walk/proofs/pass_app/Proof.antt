@@ -10,7 +10,7 @@ use Rattle.walk.proofs.pass_app.Tie as tie
 use Rattle.walk.proofs.pass_app.Reads as reads
 use Rattle.walk.proofs.pass_app.Lts as lts
 use Rattle.waiting.proofs.figures_of.Reads as figures-of-reads
-use Rattle.waiting.proofs.larger.Reads as larger-reads
+use Rattle.indices.proofs.larger.Reads as larger-reads
 use Rattle.waiting.proofs.note.Reads as note-reads
 use Rattle.waiting.proofs.wide16.Reads as wide16-reads
 

@@ -20,16 +20,16 @@ wide-requires : tie.Need-wide-requires
 wide-requires c κs = search needs
 
 entry-at-by-requires : tie.Need-entry-at-by-requires
-entry-at-by-requires c κs = let g = c .before .before .before .before .before .before .before .pre in let b = index-bounds (g .2) (g .3) (c .before .before .before .wide .ensures) (g .1 .here) in (g .0, record { frame = g .1 .frame; stored = g .1 .here .stored }, b .0, b .1)
+entry-at-by-requires c κs = let g = c .before .before .before .before .before .pre in let b = index-bounds (g .2) (g .3) (c .before .wide .ensures) (g .1 .here) in (g .0, record { frame = g .1 .frame; stored = g .1 .here .stored }, b .0, b .1)
 
 measure-requires : tie.Need-measure-requires
-measure-requires c κs = let g = c .before .before .before .before .before .before .before .before .before .before .pre in measurable (g .2) (g .3) (c .before .before .before .before .before .before .wide .ensures) (g .1 .here) (c .before .before .entry-at-by .ensures)
+measure-requires c κs = let g = c .before .before .before .before .before .before .before .before .pre in measurable (g .2) (g .3) (c .before .before .before .before .wide .ensures) (g .1 .here) (c .before .before .entry-at-by .ensures)
 
 copied-requires : tie.Need-copied-requires
-copied-requires c κs = let g = c .before .before .before .before .before .before .before .before .before .before .before .before .before .before .before .pre in (g .0, var-stated (g .2) (g .3) (c .before .before .before .before .before .before .before .before .before .before .before .wide .ensures) (g .1) (c .before .before .before .before .before .before .before .entry-at-by .ensures) (c .before .before .before .before .measure .ensures), g .4)
+copied-requires c κs = let g = c .before .before .before .before .before .before .before .before .before .before .before .before .before .pre in (g .0, var-stated (g .2) (g .3) (c .before .before .before .before .before .before .before .before .before .wide .ensures) (g .1) (c .before .before .before .before .before .before .before .entry-at-by .ensures) (c .before .before .before .before .measure .ensures), g .4)
 
 returns : tie.Need-returns
-returns c = let g = c .before .before .before .before .before .before .before .before .before .before .before .before .before .before .before .before .pre in (var-ends (g .2) (g .3) (c .before .before .before .before .before .before .before .before .before .before .before .before .wide .ensures) (c .before .before .before .before .before .before .before .before .entry-at-by .ensures) (c .before .before .before .before .before .measure .ensures) (c .copied .ensures .0), c .copied .ensures .1)
+returns c = let g = c .before .before .before .before .before .before .before .before .before .before .before .before .before .before .pre in (var-ends (g .2) (g .3) (c .before .before .before .before .before .before .before .before .before .before .wide .ensures) (c .before .before .before .before .before .before .before .before .entry-at-by .ensures) (c .before .before .before .before .before .measure .ensures) (c .copied .ensures .0), c .copied .ensures .1)
 
 pub variable-spec : {M : Type 1} → statement M
 variable-spec =
