@@ -30,7 +30,7 @@ use Rattle.verdict.specs.Bounds.{waitingSize, waitingScope, stateFits}
 use Rattle.verdict.specs.Verdict.{Waiting, terms, liftWaiting, number, placeOf, Ground, something-waits, not-reached, state-outgrown, Progress, Run, passed, stopped, andThen, turned, compareNext, tested, atTau, atVar, copiedRule, enough}
 use Rattle.verdict.proofs.Runs.{terms-lift}
 use Rattle.waiting.specs.Waiting.{Part, queueLength, slotOf, Waits, Queue, queue-none, queue-one, within, SmallSlot, Noted, Figured, Fitted}
-use Rattle.copies.specs.State.{Sound, sound-empty, sound-single, sound-pair, Reached, Says, says-passed, says-stopped, says-never, copiedNow, Known, exact, fitting, CopyAt, Room}
+use Rattle.copies.specs.State.{Sound, sound-empty, sound-single, sound-pair, Reached, Says, says-passed, says-stopped, says-never, copiedNow, Known, exact, fitting, ScopeKnown, CopyAt, Room}
 use Rattle.copies.specs.Contracts.{Turning, stopping, goingOn, Ready, Stated, Turned, turn-stops, turn-goes, Ruled, Turns}
 use Rattle.copies.specs.declared.Walked.{Walked}
 use Rattle.waiting.specs.declared.Slot.{Slot}
@@ -55,6 +55,17 @@ sound-short (suc (suc k)) e (sound-single s u) h = sound-short (suc k) e s h
 sound-short zero e (sound-pair s k u) h = no-some h
 sound-short (suc zero) e (sound-pair s k u) h = rw (← some-inj h) (u .short)
 sound-short (suc (suc k)) e (sound-pair s l u) h = sound-short (suc k) e s h
+
+-- ---- What is known of a scope.
+module _ {w : List ℕ} {p e d : ℕ} (g : Measurable w p e) where
+  pub size-fits : d + (e - p) ≤ 253 → ScopeKnown w p e d 0
+  size-fits l = record { known = λ U h n. fitting refl (omega (arith, scope-lift n 0 U, scope-size U, h .place)); bound = omega arith }
+
+  pub scope-exact : {n : ℕ} {u : Bool} → Measured w p e n u → ScopeKnown w p e d n
+  scope-exact m = record {
+    known = λ U h n. exact (m .scope U h ∙ sym (scope-lift n 0 U));
+    bound = omega (arith, m .scope (g .term) (g .stands), scope-size (g .term), g .stands .place, g .short);
+  }
 
 -- ---- A state.
 module _ {file t w ws ys : List ℕ} {base : ℕ} {s : Copying} {f : FrameRecord} where
@@ -126,7 +137,7 @@ module _ {file t w ws ys : List ℕ} {base : ℕ} {s : Copying} {f : FrameRecord
         pub measurable : Measurable w (q .domain) (q .end)
         measurable = record { term = domain meant; stands = here; short = omega (arith, here .place, short) }
 
-        pub var-goes : {n : ℕ} {u : Bool} (place : ℕ) → Measured w (q .domain) (q .end) n u
+        pub var-goes : {n : ℕ} (place : ℕ) → ScopeKnown w (q .domain) (q .end) (f .len) n
             → Turned file t w ws ys base place (goingOn (record { top = s .top; ytop = s .ytop; from = q .domain; to = q .end; shift = k; cut = 0; scope = n; next = s .next; comparisons = s .comparisons }) f) (enough R B)
             (copiedRule (copiedNow place) place R W (terms Q) B (turned 1 p))
         unfolding copiedRule atVar
@@ -143,8 +154,8 @@ module _ {file t w ws ys : List ℕ} {base : ℕ} {s : Copying} {f : FrameRecord
           cut-bound = omega arith;
           closed = rw (stored-depth (z .stored)) at (domain-at k (domains (sound-closed (z .sound))) means);
           short = omega (arith, size-lift k 0 (domain meant), short);
-          known = exact (m .scope (domain meant) here ∙ sym (scope-lift k 0 (domain meant)));
-          known-bound = omega (arith, m .scope (domain meant) here, scope-size (domain meant), short);
+          known = m .known (domain meant) here k;
+          known-bound = m .bound;
           tops = z .tops;
           ytops = z .ytops;
           wlong = z .wlong;

@@ -52,6 +52,11 @@ pub data Known (d : ℕ) (B : Term) (k : ℕ) : Type 0 where
   exact : k ≡ scope B → Known d B k
   fitting : k ≡ 0 → d + scope B ≤ mostAbstractors → Known d B k
 
+-- The number k is known of the scope of the term that stands from p up to e, wherever it is lifted to after d abstractors.
+pub record ScopeKnown (w : List ℕ) (p e d k : ℕ) : Type 0 where
+  pub known : (U : Term) → Stands w p e U → (n : ℕ) → Known d (lift n 0 U) k
+  pub bound : k ≤ longestTerm
+
 -- A state of copied text. Y, as a list with places, is Q.
 pub record CopyAt (file t w ws ys : List ℕ) (base : ℕ) (s : Copying) (f : FrameRecord) (R : Frame) (W Q : List Waiting) (B : Term) (p : Progress) : Type 0 where
   pub stored : Stored w f R

@@ -4,9 +4,12 @@ ghost use mathlib.Core.Bool.{true, false};
 ghost use Prim.Native.Nat.{_+_, _-_, _≤_, _<_};
 ghost use lib.ListN.{getD};
 ghost use Rattle.calculus.specs.Terms.{liftIndex};
+ghost use Rattle.code.specs.Limits.{mostAbstractors};
 ghost use Rattle.code.specs.Code.{Tabled};
+ghost use Rattle.indices.specs.Passes.{Standing};
 ghost use Rattle.frames.specs.Stored.{recordOf};
 ghost use Rattle.compare.specs.Sides.{Buffers};
+ghost use Rattle.copies.specs.State.{ScopeKnown};
 ghost use Rattle.copies.specs.Contracts.{nearStop, nearGo, withFrame, entering, AbsReady, Ready, Stated, Ruled, Settles, Copies};
 use compare::compare;
 use frames::FrameRecord;
@@ -77,6 +80,19 @@ fn view(b: u8, n: usize, c: usize) -> usize
         return k;
     }
     k + n
+}
+
+// The scope of the term that stands from p up to e; or 0, where its size says already that it fits after d abstractors.
+pub fn scope_or_fit(work: &[u8; 8192], p: usize, e: usize, d: usize) -> usize
+    requires { ⌜ Standing (now work) p e × (d ≤ mostAbstractors) ⌝ }
+    ensures { λ r. ⌜ ScopeKnown (now (work .entry)) p e d r ⌝ }
+{
+    if d + (e - p) <= 253 {
+        return 0;
+    }
+    let all = &work[..];
+    let m = measure(all, p, e);
+    m.scope
 }
 
 // ---- Copied text.
@@ -173,8 +189,7 @@ fn var_turn(
     let from = s.from;
     let k = view(work[from], s.shift, s.cut);
     let e = entry_at_by(tb, work, starts, len, end, k);
-    let all = &work[..];
-    let m = measure(all, e.domain, e.end);
+    let scope = scope_or_fit(work, e.domain, e.end, len);
     let o = Copying {
         top: s.top,
         ytop: s.ytop,
@@ -182,7 +197,7 @@ fn var_turn(
         to: e.end,
         shift: k,
         cut: 0,
-        scope: m.scope,
+        scope,
         next: s.next,
         comparisons: s.comparisons,
     };

@@ -24,12 +24,12 @@ use Rattle.frames.specs.declared.FrameRecord.{FrameRecord}
 use Rattle.frames.specs.declared.Span.{Span}
 use Rattle.frames.proofs.Entries.{agree-refl, agree-part, agree-trans}
 use Rattle.frames.proofs.Laws.{stored-depth, stored-agree, span-domain}
-use Rattle.indices.specs.Passes.{Measured, Standing as Measurable}
+use Rattle.indices.specs.Passes.{Standing as Measurable}
 use Rattle.indices.proofs.Walk.{scope-size}
 use Rattle.verdict.specs.Bounds.{waitingSize, waitingScope, stateSize, stateScope, stateFits}
 use Rattle.verdict.specs.Verdict.{Waiting, terms, liftWaiting, number, placeOf, something-waits, state-outgrown, Progress, Run, passed, stopped, andThen, turned, compareNext, tested, atTau, atVar, copiedRule, copiedFrom, enough, ownFrom}
 use Rattle.waiting.specs.Waiting.{Part, queueLength, slotOf, Queue, queue-none, within, Fitted}
-use Rattle.copies.specs.State.{Sound, Reached, Says, says-passed, says-stopped, says-never, copiedNow, Known, exact, fitting, CopyAt, Room}
+use Rattle.copies.specs.State.{Sound, Reached, Says, says-passed, says-stopped, says-never, copiedNow, Known, exact, fitting, ScopeKnown, CopyAt, Room}
 use Rattle.walk.specs.State.{Sized, OwnAt}
 use Rattle.copies.specs.Contracts.{Stated, Copies}
 use Rattle.walk.specs.Contracts.{afterInner, OwnStated, OwnReady, Continues, pass-stops, pass-goes, Passes, Ends, Checks}
@@ -216,7 +216,7 @@ module _ {file t w ws ys : List ℕ} {base top at : ℕ} {f : FrameRecord} {next
         pub measurable : Measurable w (q .domain) (q .end)
         measurable = record { term = domain meant; stands = here; short = omega (arith, here .place, short) }
 
-        begun : {n : ℕ} {u : Bool} → Measured w (q .domain) (q .end) n u
+        begun : {n : ℕ} → ScopeKnown w (q .domain) (q .end) (f .len) n
             → CopyAt file t w ws ys base (record { top = top; ytop = 0; from = q .domain; to = q .end; shift = k; cut = 0; scope = n; next = next; comparisons = count }) f R W [] (lift k 0 (domain meant)) (turned 1 (turned 1 p))
         begun m = record {
           stored = z .stored;
@@ -231,8 +231,8 @@ module _ {file t w ws ys : List ℕ} {base top at : ℕ} {f : FrameRecord} {next
           cut-bound = omega arith;
           closed = rw (stored-depth (z .stored)) at (domain-at k (domains (sound-closed (z .sound))) means);
           short = omega (arith, size-lift k 0 (domain meant), short);
-          known = exact (m .scope (domain meant) here ∙ sym (scope-lift k 0 (domain meant)));
-          known-bound = omega (arith, m .scope (domain meant) here, scope-size (domain meant), short);
+          known = m .known (domain meant) here k;
+          known-bound = m .bound;
           tops = omega (arith, z .tops, text-in (z .stands), z .short);
           ytops = omega arith;
           wlong = z .wlong;
@@ -243,11 +243,11 @@ module _ {file t w ws ys : List ℕ} {base top at : ℕ} {f : FrameRecord} {next
         var-run : Room (f .len) (f .end) W [] B → ownFrom at R W B p ≡ copiedNow at R W [] (lift k 0 (domain meant)) (turned 1 (turned 1 p))
         var-run o = var-rule at R W B p k meant is-var means (own-fits (z .stored) (z .sound) W B (z .shallow) ∙ room-fits o) (copied-fits (z .stored) (z .sound) W [] B (fitting refl (z .shallow)) ∙ room-fits o)
 
-    pub var-stated : (g : OwnReady file t w ws ys base top at f next count) {q : Span} → Looked w f k q → {n : ℕ} {u : Bool} → Measured w (q .domain) (q .end) n u
+    pub var-stated : (g : OwnReady file t w ws ys base top at f next count) {q : Span} → Looked w f k q → {n : ℕ} → ScopeKnown w (q .domain) (q .end) (f .len) n
         → Stated file t w ws ys base (record { top = top; ytop = 0; from = q .domain; to = q .end; shift = k; cut = 0; scope = n; next = next; comparisons = count }) f
     var-stated g l m = record { frame = g .frame; ww = g .ww; yy = []; body = _; progress = _; at = begun (g .here) l m }
 
-    pub var-ends : {w′ ys′ : List ℕ} {r : Walked} {q : Span} (l : Looked w f k q) {n : ℕ} {u : Bool} → Measured w (q .domain) (q .end) n u
+    pub var-ends : {w′ ys′ : List ℕ} {r : Walked} {q : Span} (l : Looked w f k q) {n : ℕ} → ScopeKnown w (q .domain) (q .end) (f .len) n
         → Copies file t w w′ ws ys ys′ base at (record { top = top; ytop = 0; from = q .domain; to = q .end; shift = k; cut = 0; scope = n; next = next; comparisons = count }) f r
         → Ends file t w w′ ws ys ys′ base top at f next count r
     unfolding terms

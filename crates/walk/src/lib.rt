@@ -12,13 +12,13 @@ use compare::compare;
 use copies::Copying;
 use copies::Walked;
 use copies::copied;
+use copies::scope_or_fit;
 use copies::wide;
 use frames::FrameRecord;
 use frames::empty_frame;
 use frames::entry_at_by;
 use frames::push;
 use indices::larger;
-use indices::measure;
 use waiting::Figures;
 use waiting::Slot;
 use waiting::figures_of;
@@ -238,8 +238,7 @@ fn variable(
 {
     let k = wide(t[at]);
     let e = entry_at_by(tb, work, starts, len, end, k);
-    let all = &work[..];
-    let m = measure(all, e.domain, e.end);
+    let scope = scope_or_fit(work, e.domain, e.end, len);
     let s = Copying {
         top,
         ytop: 0,
@@ -247,7 +246,7 @@ fn variable(
         to: e.end,
         shift: k,
         cut: 0,
-        scope: m.scope,
+        scope,
         next,
         comparisons: count,
     };
