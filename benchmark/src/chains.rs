@@ -66,13 +66,13 @@ fn domain(frame: &Frame, spine: &Term) -> Option<Term> {
         match b {
             Tau => return None,
             Var(index) => b = type_of_variable(&r, index),
-            App(wagon) => {
-                let (k, rest) = wagon.parts();
+            App(item) => {
+                let (k, rest) = item.parts();
                 waiting.push(k.clone());
                 b = rest.clone();
             }
-            Abs(wagon) => {
-                let (u, rest) = wagon.parts();
+            Abs(item) => {
+                let (u, rest) = item.parts();
                 let Some(k) = waiting.pop() else {
                     return Some(before(r.split_off(frame.len()), u.clone()));
                 };
@@ -85,7 +85,7 @@ fn domain(frame: &Frame, spine: &Term) -> Option<Term> {
     None
 }
 
-/// The entries as wagons before the term.
+/// The entries as items before the term.
 fn before(entries: Frame, term: Term) -> Term {
     entries.into_iter().rev().fold(term, |rest, entry| match entry {
         Entry::Single(u) => abs(u, rest),

@@ -98,7 +98,7 @@ struct Waiting {
     scope: u16,
 }
 
-/// A wagon of the term's own text whose inside is being checked, and where the outer W begins.
+/// An item of the term's own text whose inside is being checked, and where the outer W begins.
 #[derive(Clone, Copy, Default)]
 struct Open {
     at: u16,
@@ -274,14 +274,14 @@ fn examine(text: &mut Text, open: &mut [Open; MAX_TERM], t: &[u8]) -> Result<usi
             }
             return Ok(degree);
         }
-        // The inside of this wagon ends here.
+        // The inside of this item ends here.
         opened -= 1;
-        let wagon = open[opened].at;
-        let Place { byte, depth: outside, .. } = text.places[usize::from(wagon)];
+        let item = open[opened].at;
+        let Place { byte, depth: outside, .. } = text.places[usize::from(item)];
         depth = usize::from(outside);
         if byte == ABSTRACTOR {
             degrees[depth] = degree;
-            binders[depth] = wagon;
+            binders[depth] = item;
             depth += 1;
         }
     }
@@ -391,21 +391,21 @@ impl<'a, const COUNT: bool> Walk<'a, COUNT> {
             if opened == 0 {
                 return Ok(());
             }
-            // The inside of this wagon has passed.
+            // The inside of this item has passed.
             opened -= 1;
             top = base;
             base = usize::from(open[opened].base);
-            let wagon = usize::from(open[opened].at);
-            let inside = wagon + 1;
+            let item = usize::from(open[opened].at);
+            let inside = item + 1;
             i += 1;
-            if places[wagon].byte == APPLICATOR {
+            if places[item].byte == APPLICATOR {
                 let before = if top > base { w[top - 1].scope } else { 0 };
                 let scope = before.max(u16::from(places[inside].scope));
-                w[top] = Waiting { at: wagon as u16, env: 0, scope };
+                w[top] = Waiting { at: item as u16, env: 0, scope };
                 top += 1;
                 continue;
             }
-            let depth = usize::from(places[wagon].depth);
+            let depth = usize::from(places[item].depth);
             let mut size = 1 + (i - inside);
             let mut k = 0;
             if top > base {
@@ -551,16 +551,16 @@ impl<'a, const COUNT: bool> Walk<'a, COUNT> {
         if self.next >= self.file.len() {
             return refuse(9, c.place);
         }
-        let train = last - c.k;
-        let mut left = train + self.size(domain);
+        let prefix = last - c.k;
+        let mut left = prefix + self.size(domain);
         let domain_depth = c.depth + usize::from(places[last].depth - outer);
         if left > MAX_TERM || domain_depth + usize::from(places[domain].scope) > MAX_SCOPE {
             return refuse(11, c.place);
         }
         let (left_steps, right_steps) = self.take_group();
         let mut right = self.size(c.u);
-        self.write::<LEFT>(c.k, train, 0, c.depth, 0);
-        self.write::<LEFT>(domain, left - train, domain_env, domain_depth, train);
+        self.write::<LEFT>(c.k, prefix, 0, c.depth, 0);
+        self.write::<LEFT>(domain, left - prefix, domain_env, domain_depth, prefix);
         if let Err(number) = self.replay::<LEFT>(&mut left, c.depth, left_steps) {
             return refuse(number, c.place);
         }
@@ -709,9 +709,9 @@ fn find(body: &[u8; MAX_TERM], place: usize, index: usize) -> Found {
     let mut i = place;
     while i > 0 {
         if complete > BLOCK + 1 && i >= BLOCK {
-            // None of the wagons of this block stands around the place.
+            // None of the items of this block stands around the place.
             i -= BLOCK;
-            complete = complete + BLOCK - 2 * wagons(body, i);
+            complete = complete + BLOCK - 2 * items(body, i);
             continue;
         }
         i -= 1;
@@ -721,10 +721,10 @@ fn find(body: &[u8; MAX_TERM], place: usize, index: usize) -> Found {
         } else if complete > 1 {
             complete -= 1;
         } else if complete == 0 {
-            // The place is inside this wagon.
+            // The place is inside this item.
             near = false;
         } else {
-            // The place is in the rest after this wagon.
+            // The place is in the rest after this item.
             complete = 0;
             if b == ABSTRACTOR {
                 found.depth += 1;
@@ -742,10 +742,10 @@ fn find(body: &[u8; MAX_TERM], place: usize, index: usize) -> Found {
     found
 }
 
-/// How many of the bytes of a block from `i` on are wagons.
-fn wagons(body: &[u8; MAX_TERM], i: usize) -> usize {
-    let wagons = body[i..i + BLOCK].iter().map(|&b| (b >= APPLICATOR) as u8);
-    usize::from(wagons.sum::<u8>())
+/// How many of the bytes of a block from `i` on are items.
+fn items(body: &[u8; MAX_TERM], i: usize) -> usize {
+    let items = body[i..i + BLOCK].iter().map(|&b| (b >= APPLICATOR) as u8);
+    usize::from(items.sum::<u8>())
 }
 
 /// Copies the term at `from` to `to`, past it, lifted by `n`: its scope. `scopes` holds the scopes of rests still to come.
@@ -779,7 +779,7 @@ fn end_of(body: &[u8; MAX_TERM], mut i: usize) -> usize {
     let mut balance = 1;
     loop {
         while balance > BLOCK && i + BLOCK <= MAX_TERM {
-            balance = balance + 2 * wagons(body, i) - BLOCK;
+            balance = balance + 2 * items(body, i) - BLOCK;
             i += BLOCK;
         }
         if body[i] >= APPLICATOR {

@@ -1,6 +1,6 @@
 //! Inputs at the limits, each with the answer that document 01 gives it, written out: just within a limit and just beyond it.
 //!
-//! Every state's size is odd: a wagon counts 1 and a term, whose size is odd. So 8,192 bytes is no state's size, and 8,191 and
+//! Every state's size is odd: an item counts 1 and a term, whose size is odd. So 8,192 bytes is no state's size, and 8,191 and
 //! 8,193 are the neighbours of that limit; 4,095 and 4,097 those of a compared body's. While B is the term's own text, R, W and
 //! B are parts of that text, so a state outgrows the bytes in copied text only. A U by itself never outgrows: its bytes are
 //! those of a term, and its scopes were tested with the state before.
@@ -45,7 +45,7 @@ fn joined(parts: &[&[u8]]) -> Vec<u8> {
 }
 
 /// `n` times [τ].
-fn train(n: usize) -> Vec<u8> {
+fn declarations(n: usize) -> Vec<u8> {
     times(n, &[0xff, 0])
 }
 
@@ -113,17 +113,17 @@ fn terms(t: &mut Table) {
     t.plain("4,097 bytes of term", &nested(2_048), 0, (4, 0, 0, 0));
     t.plain("2,047 applicators in each other", &applied(2_047), 0, (8, 2_046, 0, 1));
     t.plain("2,047 applicators in a train", &joined(&[&times(2_047, &[0xfe, 0]), &[0]]), 0, (8, 4_092, 0, 1));
-    t.plain("200 declarations, then 1,800 in each other", &joined(&[&train(200), &nested(1_800)]), 0, (0, 0, 0, 1));
-    t.plain("253 abstractors", &joined(&[&train(253), &[0xfd]]), 0, (0, 0, 0, 2));
-    t.plain("254 abstractors", &joined(&[&train(254), &[1]]), 0, (6, 506, 0, 0));
-    t.plain("the farthest index", &joined(&[&train(252), &[0xfc]]), 0, (0, 0, 0, 2));
-    t.plain("an index too far", &joined(&[&train(252), &[0xfd]]), 0, (5, 504, 0, 0));
+    t.plain("200 declarations, then 1,800 in each other", &joined(&[&declarations(200), &nested(1_800)]), 0, (0, 0, 0, 1));
+    t.plain("253 abstractors", &joined(&[&declarations(253), &[0xfd]]), 0, (0, 0, 0, 2));
+    t.plain("254 abstractors", &joined(&[&declarations(254), &[1]]), 0, (6, 506, 0, 0));
+    t.plain("the farthest index", &joined(&[&declarations(252), &[0xfc]]), 0, (0, 0, 0, 2));
+    t.plain("an index too far", &joined(&[&declarations(252), &[0xfd]]), 0, (5, 504, 0, 0));
 }
 
 /// 253 and 254 abstractors in scope of something that waits, is copied or is compared.
 fn scopes(t: &mut Table) {
     // [τ] ⟨m abstractors, 1⟩, n pairs ⟨1⟩[τ], τ: K waits in 1 + n + m scopes.
-    let waiting = |m: usize, n: usize| joined(&[&[0xff, 0, 0xfe], &train(m), &[1], &times(n, &[0xfe, 1, 0xff, 0]), &[0]]);
+    let waiting = |m: usize, n: usize| joined(&[&[0xff, 0, 0xfe], &declarations(m), &[1], &times(n, &[0xfe, 1, 0xff, 0]), &[0]]);
     t.plain("a waiting K in 253 scopes", &waiting(249, 3), 3, (8, 2, 3, 1));
     t.plain("a waiting K in 254 scopes", &waiting(250, 3), 3, (11, 516, 3, 1));
     t.plain("a waiting K in 253 scopes, a pair fewer", &waiting(250, 2), 2, (8, 2, 2, 1));
@@ -131,10 +131,10 @@ fn scopes(t: &mut Table) {
     // A copied K waits in Y. [x:τ][y:x]⟨m abstractors, x⟩[D: m abstractors, τ], then a declaration of ⟨m abstractors, y⟩
     // 3 pairs [D] τ, whose U has the name D so that only K is deep; n declarations and its variable: 3 + 1 + n, 3 pairs and m.
     let copied = |m: usize, n: usize| {
-        let deep = train(m);
+        let deep = declarations(m);
         let names = joined(&[&[0xff, 0, 0xff, 1, 0xfe], &deep, &[m as u8 + 2, 0xff], &deep, &[0]]);
         let block = joined(&[&[0xfe], &deep, &[m as u8 + 2, 0xfe, 3, 0xff, 0], &times(2, &[0xfe, 1, 0xff, 0]), &[0xff, 4, 0]]);
-        let term = joined(&[&names, &[0xff], &block, &train(n), &[n as u8 + 1]]);
+        let term = joined(&[&names, &[0xff], &block, &declarations(n), &[n as u8 + 1]]);
         let groups = [no_steps(), no_steps(), no_steps(), no_steps(), group(vec![], local(0))];
         (term.len(), file(&term, &groups))
     };
@@ -143,19 +143,19 @@ fn scopes(t: &mut Table) {
     t.check("a copied K in 254 scopes", beyond, (11, length - 1, 5, 2));
 
     // [[m abstractors] τ] n abstractors, then the first variable: its type is m + n + 1 deep.
-    let typed = |m: usize, n: usize| joined(&[&[0xff], &train(m), &[0], &train(n), &[n as u8 + 1]]);
+    let typed = |m: usize, n: usize| joined(&[&[0xff], &declarations(m), &[0], &declarations(n), &[n as u8 + 1]]);
     t.plain("a copied B in 253 scopes", &typed(100, 152), 0, (0, 0, 0, 2));
     t.plain("a copied B in 254 scopes", &typed(100, 153), 0, (11, 508, 0, 2));
     t.plain("example 11", &typed(1, 252), 0, (11, 508, 0, 2));
 
     // A term of the frame is in the scope of the entries before its own alone.
-    let first = joined(&[&[0xff], &train(100), &[0], &train(252), &[0]]);
+    let first = joined(&[&[0xff], &declarations(100), &[0], &declarations(252), &[0]]);
     t.plain("a deep U under 252 later declarations", &first, 0, (0, 0, 0, 1));
 
     // 50 in R, the first with m in its U; K with 60 of its own and that variable waits while 40 pairs are passed.
     let compared = |m: usize| {
         let pairs = times(40, &[0xfe, 1, 0xff, 0]);
-        joined(&[&[0xff], &train(m), &[0], &train(49), &[0xfe], &train(60), &[110], &pairs, &[0xff, 0, 0]])
+        joined(&[&[0xff], &declarations(m), &[0], &declarations(49), &[0xfe], &declarations(60), &[110], &pairs, &[0xff, 0, 0]])
     };
     t.plain("a type of K in 253 scopes", &compared(103), 41, (12, 306, 40, 1));
     t.plain("a type of K in 254 scopes", &compared(104), 41, (11, 308, 40, 1));
@@ -164,8 +164,8 @@ fn scopes(t: &mut Table) {
     // [x:τ]⟨⟨m abstractors, x⟩[m abstractors, τ] x⟩[D:τ][z: n abstractors, D]⟨z⟩[n abstractors, D]τ, D replaced on one side.
     let stepped = |n: usize, left: bool| {
         let m = 50;
-        let under = |index: usize| joined(&[&train(n), &[index as u8]]);
-        let definition = joined(&[&[0xff, 0, 0xfe, 0xfe], &train(m), &[m as u8 + 1, 0xff], &train(m), &[0, 2, 0xff, 0]]);
+        let under = |index: usize| joined(&[&declarations(n), &[index as u8]]);
+        let definition = joined(&[&[0xff, 0, 0xfe, 0xfe], &declarations(m), &[m as u8 + 1, 0xff], &declarations(m), &[0, 2, 0xff, 0]]);
         let term = joined(&[&definition, &[0xff], &under(n + 1), &[0xfe, 1, 0xff], &under(n + 2), &[0]]);
         let step = local(2 * n);
         let last = if left { group(step, vec![]) } else { group(vec![], step) };
@@ -202,7 +202,7 @@ fn states(t: &mut Table) {
 /// Compared bodies of 4,095 and 4,097 bytes.
 fn bodies(t: &mut Table) {
     // ⟨[V]1⟩[τ]τ: the type of K is [V]V, 4,095 bytes; [τ] before that makes 4,097.
-    let typed = |more: usize| joined(&[&[0xfe], &train(more), &[0xff], &nested(1_023), &[1, 0xff, 0, 0]]);
+    let typed = |more: usize| joined(&[&[0xfe], &declarations(more), &[0xff], &nested(1_023), &[1, 0xff, 0, 0]]);
     t.plain("a type of K of 4,095 bytes", &typed(0), 1, (12, 0, 0, 1));
     t.plain("a type of K of 4,097 bytes", &typed(1), 1, (11, 0, 0, 1));
     t.plain("a type of K of 4,097 bytes, no group", &typed(1), 0, (9, 0, 0, 1));
@@ -268,25 +268,25 @@ fn bare(t: &mut Table) {
     t.bare("4,097 bytes", Term, &nested(2_048), 0, Some((4, 0, 0)));
     t.bare("degree 2,048", Term, &joined(&[&[0xff; 2_047], &[0], &[1; 2_047]]), 0, Some((0, 0, 2_048)));
 
-    let typed = |more: usize| joined(&[&train(more), &[0xff], &nested(1_023), &[1]]);
+    let typed = |more: usize| joined(&[&declarations(more), &[0xff], &nested(1_023), &[1]]);
     t.bare("a type of 4,095 bytes, exact", Type, &typed(0), 4_095, Some((0, 0, 4_095)));
     t.bare("a type of 4,095 bytes, longer", Type, &typed(0), 4_097, Some((0, 0, 4_095)));
     t.bare("a type of 4,095 bytes, shorter", Type, &typed(0), 4_094, Some((14, 0, 0)));
     t.bare("a type of 4,097 bytes", Type, &typed(1), 5_000, Some((11, 0, 0)));
     t.bare("a type of 4,097 bytes, no buffer", Type, &typed(1), 0, Some((11, 0, 0)));
     t.bare("no type", Type, &nested(2_047), 5_000, None);
-    let deep = |n: usize| joined(&[&[0xff], &train(100), &[0], &train(n), &[n as u8 + 1]]);
+    let deep = |n: usize| joined(&[&[0xff], &declarations(100), &[0], &declarations(n), &[n as u8 + 1]]);
     t.bare("a type in 253 scopes", Type, &deep(152), 5_000, Some((0, 0, 707)));
     t.bare("a type in 254 scopes", Type, &deep(153), 5_000, Some((11, 0, 0)));
 
     // ⟨K⟩[τ][1]1 with the 1 in the U replaced, 4,095 bytes; [τ] before that makes 4,097.
-    let stepped = |more: usize| joined(&[&train(more), &[0xfe], &nested(1_022), &[0xff, 0, 0xff, 1, 1]]);
+    let stepped = |more: usize| joined(&[&declarations(more), &[0xfe], &nested(1_022), &[0xff, 0, 0xff, 1, 1]]);
     let at = |more: u16| Step(LOCAL, 2 * more + 2_049);
     t.bare("a step to 4,095 bytes, exact", at(0), &stepped(0), 4_095, Some((0, 0, 4_095)));
     t.bare("a step to 4,095 bytes, shorter", at(0), &stepped(0), 4_094, Some((14, 0, 0)));
     t.bare("a step to 4,097 bytes", at(1), &stepped(1), 5_000, Some((11, 0, 0)));
     t.bare("a step to 4,097 bytes, no buffer", at(1), &stepped(1), 0, Some((11, 0, 0)));
-    let deep = |n: usize| joined(&[&[0xfe], &train(n), &[0, 0xff, 0], &train(100), &[101]]);
+    let deep = |n: usize| joined(&[&[0xfe], &declarations(n), &[0, 0xff, 0], &declarations(100), &[101]]);
     let at = |n: usize| Step(LOCAL, 2 * n as u16 + 204);
     t.bare("a step into 253 scopes", at(152), &deep(152), 5_000, Some((0, 0, 813)));
     t.bare("a step into 254 scopes", at(153), &deep(153), 5_000, Some((11, 0, 0)));

@@ -42,18 +42,18 @@ fn shorter<T: Clone>(items: &[T]) -> impl Iterator<Item = Vec<T>> + '_ {
     })
 }
 
-/// The bytes with less of them: without large parts; if they are a term, with a term inside it τ everywhere or there, a wagon
+/// The bytes with less of them: without large parts; if they are a term, with a term inside it τ everywhere or there, an item
 /// dropped, or its K or U alone; without small parts.
 fn smaller_terms(bytes: &[u8]) -> impl Iterator<Item = Vec<u8>> + '_ {
     let parts: [fn(&Term) -> Option<Term>; 3] = [
         |term| (term.size() > 1).then_some(Tau),
         |term| match term {
-            Abs(wagon) if !wagon.parts().1.uses(1) => Some(wagon.parts().1.without(1)),
-            App(wagon) => Some(wagon.parts().1.clone()),
+            Abs(item) if !item.parts().1.uses(1) => Some(item.parts().1.without(1)),
+            App(item) => Some(item.parts().1.clone()),
             _ => None,
         },
         |term| match term {
-            Abs(wagon) | App(wagon) => Some(wagon.parts().0.clone()),
+            Abs(item) | App(item) => Some(item.parts().0.clone()),
             _ => None,
         },
     ];
@@ -82,13 +82,13 @@ fn with_tau_for(mut bytes: &[u8], part: &[u8]) -> Vec<u8> {
 
 /// The term with `part` of the term that begins at `place` in its stead.
 fn rewritten(term: &Term, place: usize, part: fn(&Term) -> Option<Term>) -> Option<Term> {
-    let (make, wagon): (fn(Term, Term) -> Term, _) = match term {
+    let (make, item): (fn(Term, Term) -> Term, _) = match term {
         _ if place == 0 => return part(term),
         Tau | Var(_) => return None,
-        App(wagon) => (app, wagon),
-        Abs(wagon) => (abs, wagon),
+        App(item) => (app, item),
+        Abs(item) => (abs, item),
     };
-    let (inner, rest) = wagon.parts();
+    let (inner, rest) = item.parts();
     let inside = place - 1;
     if inside < inner.size() {
         Some(make(rewritten(inner, inside, part)?, rest.clone()))

@@ -47,12 +47,12 @@ fn type_in_scope<'a>(mut us: Vec<&'a Term>, term: &'a Term) -> Option<Term> {
     match term {
         Tau => None,
         Var(index) => Some(us[us.len() - *index as usize].lift(*index)),
-        App(wagon) => {
-            let (k, rest) = wagon.parts();
+        App(item) => {
+            let (k, rest) = item.parts();
             Some(app(k.clone(), type_in_scope(us, rest)?))
         }
-        Abs(wagon) => {
-            let (u, rest) = wagon.parts();
+        Abs(item) => {
+            let (u, rest) = item.parts();
             us.push(u);
             Some(abs(u.clone(), type_in_scope(us, rest)?))
         }
@@ -108,8 +108,8 @@ fn local<'a>(
             Some(k.lift(*index))
         }
         App(_) | Abs(_) if place == 0 => None,
-        App(wagon) => {
-            let (k, rest) = wagon.parts();
+        App(item) => {
+            let (k, rest) = item.parts();
             let inner = place - 1;
             if inner < k.size() {
                 Some(app(local(k, inner, ks, None)?, rest.clone()))
@@ -118,8 +118,8 @@ fn local<'a>(
                 Some(app(k.clone(), rest))
             }
         }
-        Abs(wagon) => {
-            let (u, rest) = wagon.parts();
+        Abs(item) => {
+            let (u, rest) = item.parts();
             let inner = place - 1;
             if inner < u.size() {
                 Some(abs(local(u, inner, ks, None)?, rest.clone()))
@@ -137,8 +137,8 @@ fn local<'a>(
 fn removal(term: &Term, place: usize) -> Option<Term> {
     match term {
         Tau | Var(_) => None,
-        App(wagon) => {
-            let (k, rest) = wagon.parts();
+        App(item) => {
+            let (k, rest) = item.parts();
             if place == 0 {
                 return without_pair(rest);
             }
@@ -150,8 +150,8 @@ fn removal(term: &Term, place: usize) -> Option<Term> {
             }
         }
         Abs(_) if place == 0 => None,
-        Abs(wagon) => {
-            let (u, rest) = wagon.parts();
+        Abs(item) => {
+            let (u, rest) = item.parts();
             let inside = place - 1;
             if inside < u.size() {
                 Some(abs(removal(u, inside)?, rest.clone()))
@@ -166,8 +166,8 @@ fn removal(term: &Term, place: usize) -> Option<Term> {
 /// whose variable has no use.
 fn without_pair(rest: &Term) -> Option<Term> {
     match rest {
-        Abs(wagon) => {
-            let (_, scope) = wagon.parts();
+        Abs(item) => {
+            let (_, scope) = item.parts();
             if scope.uses(1) {
                 None
             } else if made(Mistake::RemovalKeepsIndices) {

@@ -111,7 +111,7 @@ fn closed_after(rng: &mut Rng, size: usize, depth: u64) -> Term {
         };
         return Var(1 + rng.below(reach as usize) as u64);
     }
-    // An odd size for the part inside the wagon; often a small one.
+    // An odd size for the part inside the item; often a small one.
     let most = (size - 3) / 2;
     let half = if rng.below(3) == 0 {
         rng.between(0, most)
@@ -231,8 +231,8 @@ impl Maker<'_> {
     /// ⟨K⟩[U] and the rest. If the rest begins with an applicator that does not
     /// use the pair, this is sometimes put before it, so that it waits.
     fn before_pair(&mut self, k: Term, u: Term, rest: Term) -> Term {
-        if let App(wagon) = &rest {
-            let (first, after) = wagon.parts();
+        if let App(item) = &rest {
+            let (first, after) = item.parts();
             if !first.uses(1) && self.rng.below(3) == 0 {
                 return app(first.without(1), app(k, abs(u, after.clone())));
             }
@@ -399,13 +399,13 @@ impl Maker<'_> {
         }
         match term {
             Tau | Var(_) => term.clone(),
-            App(wagon) => {
-                let (inner, rest) = wagon.parts();
+            App(item) => {
+                let (inner, rest) = item.parts();
                 let inner = self.fold(inner, k, index);
                 app(inner, self.fold(rest, k, index))
             }
-            Abs(wagon) => {
-                let (inner, rest) = wagon.parts();
+            Abs(item) => {
+                let (inner, rest) = item.parts();
                 let inner = self.fold(inner, k, index);
                 abs(inner, self.fold(rest, &k.lift(1), index + 1))
             }
@@ -427,14 +427,14 @@ impl Maker<'_> {
             return None;
         }
         match wanted {
-            Abs(wagon) => {
-                let (u, rest) = wagon.parts();
+            Abs(item) => {
+                let (u, rest) = item.parts();
                 let inner = extended(frame, Entry::Single(u.clone()));
                 let k = self.inhabitant(&inner, rest, fuel - 1)?;
                 return Some(abs(u.clone(), k));
             }
-            App(wagon) => {
-                let (k, rest) = wagon.parts();
+            App(item) => {
+                let (k, rest) = item.parts();
                 if let Abs(next) = rest {
                     let (u, rest) = next.parts();
                     let inner = extended(frame, Entry::Pair(k.clone(), u.clone()));
@@ -472,13 +472,13 @@ fn domain(frame: &Frame, spine: &Term) -> Option<Term> {
         match &b {
             Tau => return None,
             Var(index) => b = type_of_variable(&r, *index),
-            App(wagon) => {
-                let (k, rest) = wagon.parts();
+            App(item) => {
+                let (k, rest) = item.parts();
                 waiting.push(k.clone());
                 b = rest.clone();
             }
-            Abs(wagon) => {
-                let (u, rest) = wagon.parts();
+            Abs(item) => {
+                let (u, rest) = item.parts();
                 match waiting.pop() {
                     Some(k) => {
                         r.push(Entry::Pair(k, u.clone()));
@@ -621,11 +621,11 @@ pub fn limit_term(rng: &mut Rng) -> Vec<u8> {
     match rng.below(8) {
         // About 4,096 bytes: a train, a nest.
         0 => {
-            let wagon = *rng.pick(&[0xfe, 0xff]);
+            let item = *rng.pick(&[0xfe, 0xff]);
             let mut bytes = if rng.below(2) == 0 {
                 joined(&[&times(2047, &[0xfe, 0]), &[0]])
             } else {
-                joined(&[&vec![wagon; 2047], &[0; 2048]])
+                joined(&[&vec![item; 2047], &[0; 2048]])
             };
             bytes.resize(rng.between(4093, 4099), 0);
             bytes

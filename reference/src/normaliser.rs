@@ -38,8 +38,8 @@ fn collect(
             }
             at + 1
         }
-        App(wagon) => {
-            let (k, rest) = wagon.parts();
+        App(item) => {
+            let (k, rest) = item.parts();
             if matches!(rest, Abs(next) if !next.parts().1.uses(1)) {
                 steps.push(Step {
                     kind: REMOVAL,
@@ -49,8 +49,8 @@ fn collect(
             let after = collect(k, at + 1, paired, false, steps);
             collect(rest, after, paired, true, steps)
         }
-        Abs(wagon) => {
-            let (u, rest) = wagon.parts();
+        Abs(item) => {
+            let (u, rest) = item.parts();
             let after = collect(u, at + 1, paired, false, steps);
             paired.push(applied);
             let after = collect(rest, after, paired, false, steps);

@@ -9,7 +9,7 @@ pub const MAX_TERM_BYTES: usize = 4096;
 /// No place is in the scope of more abstractors.
 pub const MAX_SCOPE: u64 = 253;
 
-/// A term: wagons, then a terminal.
+/// A term: items, then a terminal.
 #[derive(Clone, PartialEq, Eq, Debug)]
 pub enum Term {
     /// τ
@@ -17,17 +17,17 @@ pub enum Term {
     /// A variable with its index, 1 for the nearest abstractor.
     Var(u64),
     /// ⟨K⟩B
-    App(Rc<Wagon>),
+    App(Rc<Item>),
     /// [U]B
-    Abs(Rc<Wagon>),
+    Abs(Rc<Item>),
 }
 
 use Term::*;
 
-/// A wagon and the rest of its train. Terms share their wagons, which keep
+/// An item (document 01: a wagon) and the rest of its train. Terms share their items, which keep
 /// their measures so that these are counted once. `app` and `abs` make them.
 #[derive(PartialEq, Eq, Debug)]
-pub struct Wagon {
+pub struct Item {
     size: usize,
     /// The most abstractors of the term that any of its places is in the
     /// scope of.
@@ -39,7 +39,7 @@ pub struct Wagon {
     rest: Term,
 }
 
-impl Wagon {
+impl Item {
     /// The K or U, and the rest.
     pub fn parts(&self) -> (&Term, &Term) {
         (&self.inner, &self.rest)
@@ -47,7 +47,7 @@ impl Wagon {
 }
 
 pub fn app(k: Term, rest: Term) -> Term {
-    App(Rc::new(Wagon {
+    App(Rc::new(Item {
         size: 1 + k.size() + rest.size(),
         scopes: k.scopes().max(rest.scopes()),
         reach: k.reach().max(rest.reach()),
@@ -57,7 +57,7 @@ pub fn app(k: Term, rest: Term) -> Term {
 }
 
 pub fn abs(u: Term, rest: Term) -> Term {
-    Abs(Rc::new(Wagon {
+    Abs(Rc::new(Item {
         size: 1 + u.size() + rest.size(),
         scopes: u.scopes().max(1 + rest.scopes()),
         reach: u.reach().max(rest.reach().saturating_sub(1)),
@@ -130,14 +130,14 @@ fn test_scopes(term: &Term, at: usize, depth: u64) -> Result<usize, Refusal> {
         Tau => Ok(at + 1),
         Var(index) if *index > depth => refuse(BEYOND_SCOPE, at),
         Var(_) => Ok(at + 1),
-        App(wagon) => {
-            let (k, rest) = wagon.parts();
+        App(item) => {
+            let (k, rest) = item.parts();
             let after = test_scopes(k, at + 1, depth)?;
             test_scopes(rest, after, depth)
         }
         Abs(_) if depth == MAX_SCOPE => refuse(TOO_DEEP, at),
-        Abs(wagon) => {
-            let (u, rest) = wagon.parts();
+        Abs(item) => {
+            let (u, rest) = item.parts();
             let after = test_scopes(u, at + 1, depth)?;
             test_scopes(rest, after, depth + 1)
         }
@@ -149,14 +149,14 @@ impl Term {
     pub fn size(&self) -> usize {
         match self {
             Tau | Var(_) => 1,
-            App(wagon) | Abs(wagon) => wagon.size,
+            App(item) | Abs(item) => item.size,
         }
     }
 
     fn scopes(&self) -> u64 {
         match self {
             Tau | Var(_) => 0,
-            App(wagon) | Abs(wagon) => wagon.scopes,
+            App(item) | Abs(item) => item.scopes,
         }
     }
 
@@ -164,7 +164,7 @@ impl Term {
         match self {
             Tau => 0,
             Var(index) => *index,
-            App(wagon) | Abs(wagon) => wagon.reach,
+            App(item) | Abs(item) => item.reach,
         }
     }
 
@@ -185,12 +185,12 @@ impl Term {
             _ if self.reach() <= bound => self.clone(),
             Tau => Tau,
             Var(index) => Var(index + n),
-            App(wagon) => {
-                let (k, rest) = wagon.parts();
+            App(item) => {
+                let (k, rest) = item.parts();
                 app(k.lift_beyond(n, bound), rest.lift_beyond(n, bound))
             }
-            Abs(wagon) => {
-                let (u, rest) = wagon.parts();
+            Abs(item) => {
+                let (u, rest) = item.parts();
                 let inside = bound + u64::from(!made(Mistake::LiftsBoundIndices));
                 abs(u.lift_beyond(n, bound), rest.lift_beyond(n, inside))
             }
@@ -204,8 +204,8 @@ impl Term {
             _ if self.reach() < index => false,
             Tau => false,
             Var(own) => *own == index,
-            App(wagon) => wagon.inner.uses(index) || wagon.rest.uses(index),
-            Abs(wagon) => wagon.inner.uses(index) || wagon.rest.uses(index + 1),
+            App(item) => item.inner.uses(index) || item.rest.uses(index),
+            Abs(item) => item.inner.uses(index) || item.rest.uses(index + 1),
         }
     }
 
@@ -216,8 +216,8 @@ impl Term {
             _ if self.reach() < index => self.clone(),
             Tau => Tau,
             Var(own) => Var(own - 1),
-            App(wagon) => app(wagon.inner.without(index), wagon.rest.without(index)),
-            Abs(wagon) => abs(wagon.inner.without(index), wagon.rest.without(index + 1)),
+            App(item) => app(item.inner.without(index), item.rest.without(index)),
+            Abs(item) => abs(item.inner.without(index), item.rest.without(index + 1)),
         }
     }
 
@@ -232,9 +232,9 @@ impl Term {
         match self {
             Tau => 1,
             Var(index) => 1 + scope[scope.len() - *index as usize],
-            App(wagon) => wagon.rest.degree_after(scope),
-            Abs(wagon) => {
-                let (u, rest) = wagon.parts();
+            App(item) => item.rest.degree_after(scope),
+            Abs(item) => {
+                let (u, rest) = item.parts();
                 let of_u = u.degree_after(scope);
                 scope.push(of_u);
                 let of_rest = rest.degree_after(scope);
@@ -258,15 +258,15 @@ impl Term {
                 assert!((1..=MAX_SCOPE).contains(index), "an index has one byte");
                 bytes.push(*index as u8);
             }
-            App(wagon) => {
+            App(item) => {
                 bytes.push(APPLICATOR);
-                wagon.inner.write(bytes);
-                wagon.rest.write(bytes);
+                item.inner.write(bytes);
+                item.rest.write(bytes);
             }
-            Abs(wagon) => {
+            Abs(item) => {
                 bytes.push(ABSTRACTOR);
-                wagon.inner.write(bytes);
-                wagon.rest.write(bytes);
+                item.inner.write(bytes);
+                item.rest.write(bytes);
             }
         }
     }

@@ -60,8 +60,8 @@ impl Walk<'_, '_> {
                     self.copied_text(r, w, at, *index)?;
                     break;
                 }
-                App(wagon) => {
-                    let (k, rest) = wagon.parts();
+                App(item) => {
+                    let (k, rest) = item.parts();
                     self.own_text(r, at + 1, k)?;
                     w.push(Waiting {
                         place: at,
@@ -70,8 +70,8 @@ impl Walk<'_, '_> {
                     at += 1 + k.size();
                     b = rest;
                 }
-                Abs(wagon) => {
-                    let (u, rest) = wagon.parts();
+                Abs(item) => {
+                    let (u, rest) = item.parts();
                     self.own_text(r, at + 1, u)?;
                     match w.pop() {
                         None => r.push(Entry::Single(u.clone())),
@@ -111,13 +111,13 @@ impl Walk<'_, '_> {
                     return end_at_tau(&w);
                 }
                 Var(index) => b = type_of_variable(r, *index),
-                App(wagon) => {
-                    let (k, rest) = wagon.parts();
+                App(item) => {
+                    let (k, rest) = item.parts();
                     y.push(k.clone());
                     b = rest.clone();
                 }
-                Abs(wagon) => {
-                    let (u, rest) = wagon.parts();
+                Abs(item) => {
+                    let (u, rest) = item.parts();
                     let from_w = made(Mistake::TakesFromWFirst) && !w.is_empty();
                     if let Some(k) = if from_w { None } else { y.pop() } {
                         r.push(Entry::Pair(k, u.clone()));

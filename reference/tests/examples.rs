@@ -172,9 +172,9 @@ fn ruled_out_body_correct_alone() {
 
 #[test]
 fn edge_4095_4096_4097() {
-    let train = [times(2047, &[0xfe, 0]), vec![0]].concat();
-    assert_eq!(train.len(), 4095);
-    assert_eq!(examined(&train), (0, 0, 1));
+    let flat = [times(2047, &[0xfe, 0]), vec![0]].concat();
+    assert_eq!(flat.len(), 4095);
+    assert_eq!(examined(&flat), (0, 0, 1));
     for length in [4096, 4097] {
         for byte in [0, 1, 0xfe, 0xff] {
             let term = vec![byte; length];
@@ -182,7 +182,7 @@ fn edge_4095_4096_4097() {
             assert_eq!(examined(&term).0, number);
             assert_eq!(checked(&file_hex(&term, "")).0, number);
         }
-        let mut term = train.clone();
+        let mut term = flat.clone();
         term.resize(length, 0);
         let expected = if length == 4096 {
             (3, 4095, 0)
@@ -282,7 +282,7 @@ fn local_step_lifts_by_the_scopes_between() {
         stepped(&hex("fe 00 ff ff 00 01 00"), 1, 5, 9),
         ((10, 0, 0), untouched(9))
     );
-    // The place is a wagon or τ.
+    // The place is an item or τ.
     for place in [0, 1, 2, 3] {
         assert_eq!(
             stepped(&hex("fe 00 ff 00 01"), 1, place, 9),

@@ -109,8 +109,8 @@ fn lifting() {
             let closed = closed_term(&mut rng, size);
             assert_eq!(closed.lift(7), closed);
             // The rest after an abstractor is an open term.
-            if let Term::Abs(wagon) = &closed {
-                let (_, open) = wagon.parts();
+            if let Term::Abs(item) = &closed {
+                let (_, open) = item.parts();
                 assert_eq!(open.lift(0), *open);
                 assert_eq!(open.lift(2).lift(3), open.lift(5));
                 assert_eq!(open.lift(1).size(), open.size());
@@ -153,8 +153,8 @@ fn kept_measures() {
                 assert_eq!(term.lift(3).bytes(), lifted);
                 assert_eq!(term.lift(3).without(2), term.lift(2));
                 assert_eq!(term.uses(1), term.lift(1).uses(2));
-                if let Term::App(wagon) | Term::Abs(wagon) = &term {
-                    let (inner, rest) = wagon.parts();
+                if let Term::App(item) | Term::Abs(item) = &term {
+                    let (inner, rest) = item.parts();
                     parts.extend([inner.clone(), rest.clone()]);
                 }
             }
