@@ -1,7 +1,7 @@
 //! Files whose copied text is typed in copied text again and again: environments with several parents.
 
 use reference::frame::{type_of_variable, Entry, Frame};
-use reference::gen::{damage_groups, file, Rng};
+use reference::gen::{before, damage_groups, domain, file, Rng};
 use reference::normaliser::groups_for;
 use reference::term::{abs, app, Term, Term::*};
 
@@ -55,40 +55,4 @@ fn nested_type(rng: &mut Rng, deep: usize, depth: u64, of_p: &[u64]) -> Term {
     }
     let inner = nested_type(rng, deep - 1, depth + 1, &of_p);
     abs(u, abs(inner, Var(1)))
-}
-
-/// The U of the first abstractor for which nothing waits, after the pairs passed on the way.
-fn domain(frame: &Frame, spine: &Term) -> Option<Term> {
-    let mut r = frame.clone();
-    let mut waiting: Vec<Term> = Vec::new();
-    let mut b = spine.clone();
-    while r.len() <= 200 && b.size() <= 1000 {
-        match b {
-            Tau => return None,
-            Var(index) => b = type_of_variable(&r, index),
-            App(item) => {
-                let (k, rest) = item.parts();
-                waiting.push(k.clone());
-                b = rest.clone();
-            }
-            Abs(item) => {
-                let (u, rest) = item.parts();
-                let Some(k) = waiting.pop() else {
-                    return Some(before(r.split_off(frame.len()), u.clone()));
-                };
-                r.push(Entry::Pair(k, u.clone()));
-                waiting = waiting.iter().map(|k| k.lift(1)).collect();
-                b = rest.clone();
-            }
-        }
-    }
-    None
-}
-
-/// The entries as items before the term.
-fn before(entries: Frame, term: Term) -> Term {
-    entries.into_iter().rev().fold(term, |rest, entry| match entry {
-        Entry::Single(u) => abs(u, rest),
-        Entry::Pair(k, u) => app(k, abs(u, rest)),
-    })
 }

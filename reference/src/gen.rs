@@ -462,9 +462,20 @@ fn extended(frame: &Frame, entry: Entry) -> Frame {
     frame
 }
 
+/// The entries as items before the term.
+pub fn before(entries: Frame, term: Term) -> Term {
+    entries
+        .into_iter()
+        .rev()
+        .fold(term, |rest, entry| match entry {
+            Entry::Single(u) => abs(u, rest),
+            Entry::Pair(k, u) => app(k, abs(u, rest)),
+        })
+}
+
 /// What the next applicator before `spine` must fit: the U of the first
 /// abstractor for which nothing waits, after the pairs passed on the way.
-fn domain(frame: &Frame, spine: &Term) -> Option<Term> {
+pub fn domain(frame: &Frame, spine: &Term) -> Option<Term> {
     let mut r = frame.clone();
     let mut waiting: Vec<Term> = Vec::new();
     let mut b = spine.clone();
@@ -487,12 +498,7 @@ fn domain(frame: &Frame, spine: &Term) -> Option<Term> {
                     }
                     None => {
                         let passed = r.split_off(frame.len());
-                        return Some(passed.into_iter().rev().fold(u.clone(), |rest, entry| {
-                            match entry {
-                                Entry::Single(u) => abs(u, rest),
-                                Entry::Pair(k, u) => app(k, abs(u, rest)),
-                            }
-                        }));
+                        return Some(before(passed, u.clone()));
                     }
                 }
             }

@@ -10,10 +10,10 @@ use native.Mathlib.Numerals.{add-one}
 use lib.ListN.{length, length-append, length-drop, getD, take, drop}
 use lib.Seq.{drop-cons, drop-drop, drop-at, take-at, getD-drop}
 use Rattle.calculus.specs.Terms.{Term, tau, var, app, abs, size}
-use Rattle.code.specs.Code.{encode, Coded, coded-tau, coded-var, coded-app, coded-abs, firstZero}
+use Rattle.code.specs.Code.{encode, Coded, coded-tau, coded-var, coded-app, coded-abs}
 use Rattle.code.specs.Claims.{Stands}
 use Rattle.code.proofs.RoundTrip.{length-encode, encode-injective}
-use Rattle.code.proofs.FirstZero.{firstZero-encode, standing}
+use Rattle.code.proofs.FirstZero.{standing}
 
 -- ---- The bytes at a place.
 pub first-byte : (s : List ℕ) (p : ℕ) {b : ℕ} {r : List ℕ} → drop p s ≡ b ∷ r → getD s p 0 ≡ b
@@ -42,10 +42,6 @@ module _ {s : List ℕ} {p e : ℕ} {t : Term} (h : Stands s p e t) where
 
   pub stands-end : e ≤ length s
   stands-end = omega (arith, length-drop p s, ap length (h .bytes), length-append (encode t) (h .rest), length-encode t, positive-size t, h .place)
-
-  -- A balance of n + 1 where a term starts is n where it ends, and not 0 before that.
-  pub stands-firstZero : (n : ℕ) → firstZero (drop p s) (suc n) p ≡ firstZero (drop e s) n e
-  stands-firstZero n = rw (h .bytes, firstZero-encode (h .coded) (h .rest) n p, stands-rest, h .place)
 
 pub stands-self : {t : Term} → Coded t → Stands (encode t) 0 (size t) t
 stands-self {t} f = record { rest = []; bytes = sym (append-nil (encode t)); coded = f; place = omega arith }
@@ -85,12 +81,3 @@ head {s} {p} {e} {t} h = go t (h .coded) (h .bytes) (h .place)
 joined : {e : ℕ} (s : List ℕ) (p m b : ℕ) (K B : Term) → p < length s → getD s p 0 ≡ b → Stands s (suc p) m K → (k : Stands s m e B)
     → drop p s ≡ b ∷ (encode K ++ encode B) ++ k .rest
 joined s p m b K B l q h k = drop-cons s p 0 l ∙ rw (q, h .bytes, ← stands-rest h, k .bytes, append-assoc (encode K) (encode B) (k .rest))
-
-pub head-stands : {s : List ℕ} {p e : ℕ} {t : Term} → p < length s → Head s p e t → Stands s p e t
-unfolding encode size
-head-stands {s} {p} l (head-tau b q) = record { rest = drop (suc p) s; bytes = rw (drop-cons s p 0, b); coded = coded-tau; place = omega arith }
-head-stands {s} {p} l (head-var {k} b x y q) = record { rest = drop (suc p) s; bytes = rw (drop-cons s p 0, b); coded = coded-var {k = k} x y; place = omega arith }
-head-stands {s} {p} l (head-app {m} {K} {B} b h k) =
-    record { rest = k .rest; bytes = joined s p m 254 K B l b h k; coded = coded-app (h .coded) (k .coded); place = omega (arith, h .place, k .place) }
-head-stands {s} {p} l (head-abs {m} {U} {B} b h k) =
-    record { rest = k .rest; bytes = joined s p m 255 U B l b h k; coded = coded-abs (h .coded) (k .coded); place = omega (arith, h .place, k .place) }

@@ -5,7 +5,6 @@ use mathlib.Core.Path.{_≡_, refl, ap, ap₂, sym}
 use mathlib.Core.Option.{some}
 use native.Mathlib.Omega.{arith}
 use native.Mathlib.Nat.{suc-add}
-use native.Mathlib.Numerals.{add-one}
 use borrow.Author.Tests.{le-leb, lt-leb}
 use Rattle.calculus.specs.Terms.{Term, tau, var, app, abs, size, Closed, closed-tau, closed-var, closed-app, closed-abs, lift, liftIndex}
 use Rattle.calculus.specs.Steps.{lower}
@@ -86,6 +85,3 @@ module _ (c : ℕ) (t u : Term) (e : lower c t ≡ some u) where
 
   pub lower-coded : Coded t → Coded u
   lower-coded f = coded-lifted 1 c u (rw (lower-sound c t u e) at f)
-
-  pub lower-closed : {m : ℕ} → c ≤ m → Closed (suc m) t → Closed m u
-  lower-closed {m} l f = closed-lifted m 1 c u l (rw (lower-sound c t u e, ← add-one m) at f)

@@ -66,19 +66,5 @@ module _ {s : List ℕ} {from e : ℕ} {t : Term} (h : Stands s from e t) where
           rw (add-zero from) at (drop-sets-before (encode u) s from 0) ∙ rw (h .bytes)
           (sets-eq (encode u) (encode t ++ h .rest) 0 (rw length-append (omega (arith, l))) ∙ ap (encode u ++_) (rw (zero-add (length (encode u)), l) (drop-at (encode t) (h .rest) (length (encode t)) refl)))
 
-  -- A term that stands elsewhere still stands.
-  pub stands-before : (vs : List ℕ) (i : ℕ) → e ≤ i → Stands (sets s i vs) from e t
-  stands-before vs i l =
-      record { rest = sets (h .rest) (i - e) vs; bytes = bytes; coded = h .coded; place = h .place }
-    where
-      at-place : i ≡ from + (length (encode t) + (i - e))
-      at-place = omega (arith, h .place, length-encode t)
-
-      bytes : drop from (sets s i vs) ≡ encode t ++ sets (h .rest) (i - e) vs
-      bytes = ap (λ j. drop from (sets s j vs)) at-place ∙ drop-sets-before vs s from (length (encode t) + (i - e)) ∙ rw (h .bytes) (sets-append vs (encode t) (h .rest) (i - e))
-
-  pub stands-after : (vs : List ℕ) (i : ℕ) → i + length vs ≤ from → Stands (sets s i vs) from e t
-  stands-after vs i l = record { rest = h .rest; bytes = drop-sets-after vs s i from l ∙ h .bytes; coded = h .coded; place = h .place }
-
 pub standing : {s : List ℕ} {from e : ℕ} {t : Term} → Stands s from e t → size t ≤ longestTerm → Standing s from e
 standing {t = t} h l = record { term = t; stands = h; short = omega (arith, h .place) }

@@ -2,24 +2,21 @@
 -- Assumes nothing.
 use Prim.Native.Nat.{ℕ, _+_, _≤_, _<_}
 use mathlib.Core.Path.{_≡_, refl, ap, sym, _∙_}
-use mathlib.Core.Option.{some}
 use mathlib.Core.List.{List}
 use native.Mathlib.Omega.{arith}
-use lib.ListN.{length, take, drop}
+use lib.ListN.{take}
 use lib.Seq.{sets}
 use Rattle.calculus.specs.Terms.{Term, size, lift}
-use Rattle.calculus.specs.Steps.{lower}
 use Rattle.calculus.proofs.Lift.{lift-zero, size-lift}
 use Rattle.code.specs.Code.{encode, Coded}
 use Rattle.code.specs.Claims.{Stands}
-use Rattle.code.proofs.RoundTrip.{length-encode}
 use Rattle.indices.specs.Shift.{shift}
 use Rattle.code.specs.Limits.{longestTerm}
 use Rattle.code.specs.Scope.{scope}
 use Rattle.indices.specs.Passes.{Standing, Replaced, Liftable, LiftableAbove, Lowerable, Lowered, Shiftable}
 use Rattle.indices.proofs.Walk.{scope-size}
-use Rattle.indices.proofs.Lowering.{shift-up, lower-shift, lower-size, lower-coded}
-use Rattle.indices.proofs.Places.{sets-own, stands-set, stands-before, stands-after, take-sets, drop-sets-after}
+use Rattle.indices.proofs.Lowering.{shift-up, lower-shift, lower-coded}
+use Rattle.indices.proofs.Places.{sets-own, stands-set, take-sets}
 
 -- ---- The contracts.
 pub lift-shiftable : {s : List ℕ} {from e n c : ℕ} → LiftableAbove s from e n c → Shiftable s from e n 0 c
@@ -52,23 +49,8 @@ module _ {s s′ : List ℕ} {from e : ℕ} {t u : Term} (h : Stands s from e t)
   pub here-stands : Stands s′ from e u
   here-stands = rw q (stands-set h f l)
 
-  end-place : from + length (encode u) ≡ e
-  end-place = omega (arith, length-encode u, h .place)
-
-  pub before-stands : {p r : ℕ} {x : Term} → Stands s p r x → r ≤ from → Stands s′ p r x
-  before-stands k o = rw q (stands-before k (encode u) from o)
-
-  pub after-stands : {p r : ℕ} {x : Term} → Stands s p r x → e ≤ p → Stands s′ p r x
-  after-stands k o = rw q (stands-after k (encode u) from (omega (arith, end-place)))
-
   pub before-same : (n : ℕ) → n ≤ from → take n s′ ≡ take n s
   before-same n o = rw q (take-sets (encode u) s from n o)
 
-  pub after-same : (n : ℕ) → e ≤ n → drop n s′ ≡ drop n s
-  after-same n o = rw q (drop-sets-after (encode u) s from n (omega (arith, end-place)))
-
 pub lifted-stands : {s s′ : List ℕ} {from e : ℕ} (n c : ℕ) {t : Term} → Replaced (lift n c) s s′ from e → Stands s from e t → Coded (lift n c t) → Stands s′ from e (lift n c t)
 lifted-stands n c {t} r h f = here-stands h (r .bytes t h) f (size-lift n c t)
-
-pub lowered-stands : {s s′ : List ℕ} {from e : ℕ} {t u : Term} → Lowered s s′ from e → Stands s from e t → lower 0 t ≡ some u → Stands s′ from e u
-lowered-stands {t = t} {u = u} r h q = here-stands h (r .bytes t u h q) (lower-coded 0 t u q (h .coded)) (lower-size 0 t u q)

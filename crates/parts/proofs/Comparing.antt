@@ -2,7 +2,7 @@
 -- Assumes nothing.
 use Prim.Native.Nat.{ℕ, _+_, _≤_, _<_}
 use mathlib.Core.Path.{_≡_, refl, ap, sym, _∙_}
-use mathlib.Core.Bool.{Bool, true, false}
+use mathlib.Core.Bool.{true, false}
 use mathlib.Core.List.{List}
 use native.Mathlib.Omega.{arith}
 use native.Mathlib.Numerals.{add-one}
@@ -31,7 +31,3 @@ one-differs {a} {b} {n} {i} h f =
       same = λ z. let y : _≡_ {A = ℕ} 0 1 = cc in absurd (omega arith);
       found = λ e. absurd (f (sym (getD-take n a i 0 h) ∙ ap (λ l. getD l i 0) e ∙ getD-take n b i 0 h));
     }
-
--- For a caller whose answer is false.
-pub compared-differ : {a b : List ℕ} {n : ℕ} {answer : Bool} → Compared a b n answer → answer ≡ false → take n a ≡ take n b → ⊥
-compared-differ w f e = let t = w .found e in let y : _≡_ {A = ℕ} 0 1 = cc in omega arith

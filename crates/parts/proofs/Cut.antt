@@ -18,18 +18,6 @@ part-empty s j k h = ap (λ n. take n (drop j s)) none
     none : k - j ≡ 0
     none = omega arith
 
-pub length-part-le : (s : List ℕ) (j k : ℕ) → length (part s j k) ≤ k - j
-length-part-le s j k = rw (length-take (k - j) (drop j s)) (omega arith)
-
-pub part-split : (s : List ℕ) (j m k : ℕ) → j ≤ m → m ≤ k → part s j k ≡ part s j m ++ part s m k
-part-split s j m k h l = rw sum (take-add (m - j) (k - m) (drop j s) ∙ rw (drop-drop (m - j) j s, there))
-  where
-    sum : k - j ≡ m - j + (k - m)
-    sum = omega arith
-
-    there : j + (m - j) ≡ m
-    there = omega arith
-
 module _ (s : List ℕ) (j k : ℕ) (h : j < k) (l : k ≤ length s) where
   pub part-first : part s j k ≡ getD s j 0 ∷ part s (j + 1) k
   part-first = rw (fewer, drop-cons s j 0 (omega arith), add-one j)

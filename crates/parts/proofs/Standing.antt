@@ -2,7 +2,7 @@
 -- Assumes nothing.
 use Prim.Native.Nat.{ℕ, _+_, _-_, _≤_}
 use mathlib.Core.Path.{_≡_, refl, ap, sym, subst, _∙_}
-use mathlib.Core.List.{List, _++_, append-assoc}
+use mathlib.Core.List.{List, _++_}
 use native.Mathlib.Omega.{arith}
 use lib.ListN.{length, drop}
 use lib.Seq.{sets}
@@ -10,10 +10,9 @@ use Rattle.calculus.specs.Terms.{Term, size}
 use Rattle.code.specs.Code.{encode, Coded}
 use Rattle.code.specs.Claims.{Stands}
 use Rattle.code.proofs.RoundTrip.{length-encode}
-use Rattle.code.proofs.Parts.{drop-more, stands-taken, stands-start}
+use Rattle.code.proofs.Parts.{stands-taken}
 use Rattle.parts.specs.Parts.{part, Copied}
-use Rattle.parts.proofs.Cut.{length-part, length-part-le, part-split}
-use Rattle.parts.proofs.Stores.{drop-sets, drop-sets-add, sets-append, drop-sets-start}
+use Rattle.parts.proofs.Stores.{drop-sets-add, sets-append, drop-sets-start}
 
 -- ---- A term that stands outside the bytes that are stored still stands.
 module _ {s : List ℕ} {p e : ℕ} {t : Term} (h : Stands s p e t) (at : ℕ) (v : List ℕ) where
@@ -26,9 +25,6 @@ module _ {s : List ℕ} {p e : ℕ} {t : Term} (h : Stands s p e t) (at : ℕ) (
       bytes : drop p (sets s at v) ≡ encode t ++ sets (h .rest) (at - e) v
       bytes = ap (λ q. drop p (sets s q v)) there ∙ drop-sets-add v s p (length (encode t) + (at - e)) ∙ rw (h .bytes) (sets-append v (encode t) (h .rest) (at - e))
 
-  pub stands-sets-after : at + length v ≤ p → Stands (sets s at v) p e t
-  stands-sets-after l = record { rest = h .rest; bytes = drop-sets v s at p l ∙ h .bytes; coded = h .coded; place = h .place }
-
 -- ---- A term whose bytes are stored stands there.
 pub stands-written : {t : Term} → Coded t → (s : List ℕ) (at : ℕ) → at + size t ≤ length s → Stands (sets s at (encode t)) at (at + size t) t
 stands-written {t} f s at l =
@@ -38,30 +34,6 @@ stands-written {t} f s at l =
 module _ {r : List ℕ} {from to : ℕ} {s s′ : List ℕ} {at : ℕ} (q : Copied r from to s s′ at) {p e : ℕ} {t : Term} where
   pub copied-before : Stands s p e t → e ≤ at → Stands s′ p e t
   copied-before h l = subst (λ x. Stands x p e t) (sym (q .bytes)) (stands-sets-before h at (part r from to) l)
-
-  pub copied-after : Stands s p e t → at + (to - from) ≤ p → Stands s′ p e t
-  copied-after h l = subst (λ x. Stands x p e t) (sym (q .bytes)) (stands-sets-after h at (part r from to) (omega (arith, length-part-le r from to)))
-
-  -- A term that stands within the part stands within its copy.
-  pub copied-within : Stands r p e t → from ≤ p → e ≤ to → to ≤ length r → at + (to - from) ≤ length s → Stands s′ (at + (p - from)) (at + (e - from)) t
-  copied-within h l m n room =
-      subst (λ x. Stands x (at + (p - from)) (at + (e - from)) t) (sym (q .bytes))
-      (record { rest = part r e to ++ end; bytes = bytes; coded = h .coded; place = omega (arith, h .place) })
-    where
-      v : List ℕ
-      v = part r from to
-
-      end : List ℕ
-      end = drop (at + length v) s
-
-      cut : v ≡ part r from p ++ (encode t ++ part r e to)
-      cut = part-split r from p to l (omega (arith, stands-start h)) ∙ ap (part r from p ++_) (part-split r p e to (omega (arith, stands-start h)) m ∙ ap (_++ part r e to) (stands-taken h))
-
-      bytes : drop (at + (p - from)) (sets s at v) ≡ encode t ++ (part r e to ++ end)
-      bytes =
-          drop-more (sets s at v) at (p - from) (part r from p) (encode t ++ (part r e to ++ end))
-          (drop-sets-start v s at (omega (arith, length-part r from to n)) ∙ ap (_++ end) cut ∙ simp append-assoc)
-          (length-part r from p (omega (arith, stands-start h)))
 
 -- The whole part is a term.
 pub copied-term : {r s s′ : List ℕ} {from e at : ℕ} {t : Term} → Copied r from e s s′ at → Stands r from e t → at + (e - from) ≤ length s → Stands s′ at (at + size t) t

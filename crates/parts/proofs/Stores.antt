@@ -8,7 +8,6 @@ use native.Mathlib.Nat.{add-suc, add-zero, suc-add, zero-add}
 use lib.ListN.{length, set, take, drop, length-append}
 use lib.Seq.{sets, sets-eq, length-take-le, set-comm, drop-set-lt, drop-set-add, take-set-le, take-at, drop-at}
 use Rattle.parts.specs.Parts.{part, Copied}
-use Rattle.parts.proofs.Cut.{length-part, length-part-le}
 
 -- ---- Outside the bytes that are stored.
 pub take-sets : (v s : List ℕ) (at n : ℕ) → n ≤ at → take n (sets s at v) ≡ take n s
@@ -40,9 +39,6 @@ module _ (v s : List ℕ) (at : ℕ) (h : at + length v ≤ length s) where
   pub drop-sets-start : drop at (sets s at v) ≡ v ++ drop (at + length v) s
   drop-sets-start = rw (sets-eq v s at h, append-assoc (take at s) v (drop (at + length v) s)) (drop-at (take at s) (v ++ drop (at + length v) s) at (length-take-le at s (omega arith)))
 
-  pub part-sets : (e : ℕ) → e ≡ at + length v → part (sets s at v) at e ≡ v
-  part-sets e q = rw drop-sets-start (take-at v (drop (at + length v) s) (e - at) (omega arith))
-
 -- ---- One store after the other.
 pub sets-sets : (v w s : List ℕ) (at p : ℕ) → p ≡ at + length v → sets (sets s at v) p w ≡ sets s at (v ++ w)
 sets-sets [] w s at p q = rw (q, add-zero at)
@@ -57,11 +53,3 @@ sets-last (y ∷ v) s at x = sets-last v (set s at y) (suc at) x ∙ rw (suc-add
 module _ {r : List ℕ} {from to : ℕ} {s s′ : List ℕ} {at : ℕ} (q : Copied r from to s s′ at) where
   pub copied-take : (n : ℕ) → n ≤ at → take n s′ ≡ take n s
   copied-take n h = rw (q .bytes) (take-sets (part r from to) s at n h)
-
-  pub copied-drop : (p : ℕ) → at + (to - from) ≤ p → drop p s′ ≡ drop p s
-  copied-drop p h = rw (q .bytes) (drop-sets (part r from to) s at p (omega (arith, length-part-le r from to)))
-
-  pub copied-part : to ≤ length r → at + (to - from) ≤ length s → part s′ at (at + (to - from)) ≡ part r from to
-  copied-part h l =
-      let n = length-part r from to h in
-      ap (λ x. part x at (at + (to - from))) (q .bytes) ∙ part-sets (part r from to) s at (omega arith) (at + (to - from)) (omega arith)

@@ -1,7 +1,7 @@
 -- What a caller of `type_in_place` knows of the buffer.
 -- Assumes nothing.
 use Prim.Native.Nat.{ℕ, _-_}
-use mathlib.Core.Path.{_≡_, ap, sym, _∙_}
+use mathlib.Core.Path.{_≡_, ap, _∙_}
 use mathlib.Core.Bool.{true, false}
 use mathlib.Core.Option.{none, some}
 use mathlib.Core.List.{List}
@@ -10,7 +10,6 @@ use lib.ListN.{take}
 use Rattle.calculus.specs.Terms.{Term, size}
 use Rattle.calculus.specs.Frames.{Frame}
 use Rattle.calculus.specs.Types.{type}
-use Rattle.calculus.proofs.Ren.{some-inj}
 use Rattle.code.specs.Code.{encode}
 use Rattle.code.proofs.Parts.{stands-taken}
 use Rattle.frames.specs.declared.FrameRecord.{FrameRecord}
@@ -44,7 +43,3 @@ module _ {w : List ℕ} {f : FrameRecord} {b b′ : List ℕ} {R : Frame} {t : T
 
   pub written-typed : {m : ℕ} → TypedAs w f b b′ R t (Length m) → Result w f b′ m R t
   written-typed (written {T = T} q s l h) = record { term = T; typed = q; fits = s; length = l; body = h; bytes = body-bytes h }
-
-  -- For a caller that knows the type.
-  pub written-for : {m : ℕ} {T : Term} → TypedAs w f b b′ R t (Length m) → type R t ≡ some T → Body w f b′ m R T
-  written-for (written q s l h) e = rw (some-inj (sym e ∙ q)) h
