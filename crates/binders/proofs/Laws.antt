@@ -13,8 +13,9 @@ use borrow.Author.Tests.{lt-ltb, le-ltb}
 use Rattle.calculus.specs.Terms.{Term, tau, var, app, abs, size, Closed, closed-app, closed-abs}
 use Rattle.calculus.specs.Frames.{Entry, single, domain, Frame, ε, _▹_, depth, entryAt, ClosedEntry, closed-single, closed-pair, ClosedFrame, closed-entry}
 use Rattle.calculus.specs.Types.{typeOfVar, type}
-use Rattle.calculus.specs.Steps.{Kind, Outcome, reached, refused, past-end, mapOutcome, stepHere, entryOf, stepAt}
+use Rattle.calculus.specs.Steps.{Kind, Outcome, reached, refused, mapOutcome, stepHere, entryOf, stepAt}
 use Rattle.calculus.proofs.Ren.{no-some, some-inj}
+use Rattle.calculus.proofs.Places.{step-past}
 use Rattle.code.specs.Code.{encode, Coded, coded-app, coded-abs}
 use Rattle.code.specs.Scope.{scope}
 use Rattle.code.specs.Claims.{Stands}
@@ -58,17 +59,6 @@ path-step κ R m (in-dom {U} {B} {u} {p} h w) =
 path-step κ R m (past-dom {U} {B} {u} {p} w) =
     rw (le-ltb (size U + p) (size U) (omega arith), less (size U) p, path-step κ (R ▹ entryOf m U) none w, frame-past-dom U B p R m)
     (map-map (abs U) (replace B p) (replace (abs U B) (suc (size U + p))) (stepHere κ (frameAt (R ▹ entryOf m U) none B p) u) (replace-past-dom U B p))
-
-pub step-past : (κ : Kind) (R : Frame) (m : Option Term) (t : Term) (p : ℕ) → size t ≤ p → stepAt κ R m t p ≡ refused past-end
-unfolding stepAt size mapOutcome
-step-past κ R m tau zero h = absurd (omega arith)
-step-past κ R m tau (suc p) h = refl
-step-past κ R m (var k) zero h = absurd (omega arith)
-step-past κ R m (var k) (suc p) h = refl
-step-past κ R m (app K B) zero h = absurd (omega arith)
-step-past κ R m (app K B) (suc p) h = rw (le-ltb p (size K) (omega arith), step-past κ R (some K) B (p - size K) (omega arith))
-step-past κ R m (abs U B) zero h = absurd (omega arith)
-step-past κ R m (abs U B) (suc p) h = rw (le-ltb p (size U) (omega arith), step-past κ (R ▹ entryOf m U) none B (p - size U) (omega arith))
 
 -- ---- Sizes.
 path-size : {t u : Term} {p : ℕ} (x : Term) → Path t p u → size (replace t p x) + size u ≡ size t + size x

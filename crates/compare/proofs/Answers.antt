@@ -26,7 +26,8 @@ use Rattle.types.specs.declared.Typed.the-variants.{Nothing, Outgrown, Length}
 use Rattle.types.specs.Typed.{TypedAs, no-type, too-large, written, Types}
 use Rattle.types.proofs.Use.{nothing-typed, outgrown-typed, written-typed}
 use Rattle.verdict.specs.Bounds.{bodyFits}
-use Rattle.verdict.specs.Verdict.{Ground, number, Progress, Run, stopped, withGroup}
+use Rattle.verdict.specs.Verdict.{Ground, number, Progress, Run, stopped}
+use Rattle.recursion.specs.Recursion.{nextGroup as withGroup}
 use Rattle.compare.specs.declared.Compared.{Compared}
 use Rattle.compare.specs.Replays.{SomePart, Loadable, Loaded, PartFits}
 use Rattle.compare.specs.Sides.{TwoSides, SidesSay, sides-passed, sides-stopped, Sides}

@@ -15,7 +15,7 @@ use Rattle.fields.proofs.Groups.{no-step, next-step}
 use Rattle.frames.specs.declared.FrameRecord.{FrameRecord}
 use Rattle.frames.specs.Body.{Body, SomeBody}
 use Rattle.verdict.specs.Bounds.{bodyFits}
-use Rattle.verdict.specs.Verdict.{refused-at, outgrown-at, afterStep, replayFrom}
+use Rattle.recursion.specs.Recursion.{refused-at, outgrown-at, afterStep, replayFrom}
 use Rattle.steps.specs.declared.Stepped.{Stepped}
 use Rattle.steps.specs.declared.Stepped.the-variants.{Refused, Outgrown, Length}
 use Rattle.steps.specs.Answer.{SteppedAs, as-refused as step-refused, as-outgrown as step-outgrown, as-length, Answers}

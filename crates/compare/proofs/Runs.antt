@@ -18,7 +18,8 @@ use Rattle.frames.specs.declared.FrameRecord.{FrameRecord}
 use Rattle.frames.specs.Body.{Body, SomeBody}
 use Rattle.parts.specs.Parts.{Compared}
 use Rattle.verdict.specs.Bounds.{bodyFits}
-use Rattle.verdict.specs.Verdict.{Replayed as Replay, form, replayFrom, Side, left-side, right-side, untyped, no-group, type-outgrown, domain-outgrown, bodies-differ, number, Progress, Run, passed, stopped, turned, identical, oneSide, completed, compareWith, withGroup, withType, compareNext}
+use Rattle.verdict.specs.Verdict.{Side, left-side, right-side, untyped, no-group, type-outgrown, domain-outgrown, bodies-differ, number, Progress, Run, passed, stopped, turned, identical}
+use Rattle.recursion.specs.Recursion.{Replayed as Replay, form, replayFrom, oneSide, completedWith as completed, compareWith, nextGroup as withGroup, typedBy as withType, compareNext}
 use Rattle.compare.specs.declared.Replayed.{Replayed}
 use Rattle.compare.specs.Replays.{ReplayedAs, as-form, as-refused, as-outgrown, Replays}
 use Rattle.compare.specs.Sides.{SidesSay, sides-passed, sides-stopped, Sides}

@@ -13,7 +13,8 @@ use Rattle.frames.specs.declared.FrameRecord.{FrameRecord}
 use Rattle.frames.specs.Stored.{Stored}
 use Rattle.frames.specs.Body.{Body, SomeBody}
 use Rattle.verdict.specs.Bounds.{bodyFits}
-use Rattle.verdict.specs.Verdict.{Ground, number, Progress, Run, passed, stopped, withGroup, compareNext}
+use Rattle.verdict.specs.Verdict.{Ground, number, Progress, Run, passed, stopped}
+use Rattle.recursion.specs.Recursion.{nextGroup as withGroup, compareNext}
 use Rattle.compare.specs.declared.Compared.{Compared}
 
 -- ⟨K⟩[U] stands at the end of the frame's bytes: K up to m, U up to e; it is no entry yet. The groups left stand from `at` on.

@@ -14,7 +14,7 @@ use Rattle.fields.specs.Fields.{steps}
 use Rattle.frames.specs.declared.FrameRecord.{FrameRecord}
 use Rattle.frames.specs.Body.{Body}
 use Rattle.verdict.specs.Bounds.{bodyFits}
-use Rattle.verdict.specs.Verdict.{Replayed as Replay, form, refused-at, outgrown-at, replayFrom}
+use Rattle.recursion.specs.Recursion.{Replayed as Replay, form, refused-at, outgrown-at, replayFrom}
 use Rattle.compare.specs.declared.Replayed.{Replayed}
 
 -- Some term stands in the work array from a place up to another.

@@ -14,7 +14,8 @@ use Rattle.fields.specs.Fields.{StepRange, groupIn}
 use Rattle.frames.specs.declared.FrameRecord.{FrameRecord}
 use Rattle.frames.specs.Body.{Body, SomeBody}
 use Rattle.verdict.specs.Bounds.{bodyFits}
-use Rattle.verdict.specs.Verdict.{Ground, number, Progress, Run, passed, stopped, compareWith}
+use Rattle.verdict.specs.Verdict.{Ground, number, Progress, Run, passed, stopped}
+use Rattle.recursion.specs.Recursion.{compareWith}
 
 -- The two buffers that a comparison is lent. What they hold does not matter.
 pub record Buffers (a b : List ℕ) : Type 0 where

@@ -27,8 +27,9 @@ use Rattle.frames.proofs.Laws.{stored-depth, span-domain}
 use Rattle.indices.specs.Passes.{Measured, Standing as Measurable}
 use Rattle.indices.proofs.Walk.{scope-size}
 use Rattle.verdict.specs.Bounds.{waitingSize, waitingScope, stateFits}
-use Rattle.verdict.specs.Verdict.{Waiting, terms, liftWaiting, number, placeOf, Ground, something-waits, not-reached, state-outgrown, Progress, Run, passed, stopped, andThen, turned, compareNext, tested, atTau, atVar, copiedRule, enough}
-use Rattle.verdict.proofs.Runs.{terms-lift}
+use Rattle.verdict.specs.Verdict.{number, placeOf, Ground, something-waits, not-reached, state-outgrown, Progress, Run, passed, stopped, andThen, turned}
+use Rattle.recursion.specs.Recursion.{Waiting, terms, liftWaiting, compareNext, tested, atTau, atVar, copiedRule, enough}
+use Rattle.recursion.proofs.Same.{terms-lift}
 use Rattle.waiting.specs.Waiting.{Part, queueLength, slotOf, Waits, Queue, queue-none, queue-one, within, SmallSlot, Noted, Figured, Fitted}
 use Rattle.copies.specs.State.{Sound, sound-empty, sound-single, sound-pair, Reached, Says, says-passed, says-stopped, says-never, copiedNow, Known, exact, fitting, ScopeKnown, CopyAt, Room}
 use Rattle.copies.specs.Contracts.{Turning, stopping, goingOn, Ready, Stated, Turned, turn-stops, turn-goes, Ruled, Turns}

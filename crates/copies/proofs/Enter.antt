@@ -24,8 +24,9 @@ use Rattle.frames.specs.declared.FrameRecord.{FrameRecord}
 use Rattle.frames.proofs.Entries.{agree-refl, agree-part, agree-trans, stands-agree, bytes-start, bytes-end}
 use Rattle.frames.proofs.Laws.{stored-depth, stored-push, stored-agree}
 use Rattle.verdict.specs.Bounds.{bodyFits, waitingSize, waitingScope}
-use Rattle.verdict.specs.Verdict.{Waiting, terms, liftWaiting, number, placeOf, Ground, Side, left-side, right-side, Replayed, form, refused-at, outgrown-at, replayFrom, identical, oneSide, compareWith, withGroup, withType, Progress, Run, passed, stopped, andThen, turned, compareNext, copiedRule, enough}
-use Rattle.verdict.proofs.Runs.{terms-lift}
+use Rattle.verdict.specs.Verdict.{number, placeOf, Ground, Side, left-side, right-side, identical, Progress, Run, passed, stopped, andThen, turned}
+use Rattle.recursion.specs.Recursion.{Waiting, terms, liftWaiting, Replayed, form, refused-at, outgrown-at, replayFrom, oneSide, compareWith, nextGroup as withGroup, typedBy as withType, compareNext, copiedRule, enough}
+use Rattle.recursion.proofs.Same.{terms-lift}
 use Rattle.waiting.specs.Waiting.{Part, queueLength, slotOf, Waits, Queue, Written, Writable, Puts, TopAsked, TopPut}
 use Rattle.copies.specs.State.{Sound, sound-single, sound-pair, Reached, Says, says-passed, says-stopped, copiedNow, Known, exact, fitting, CopyAt, Room}
 use Rattle.copies.specs.Contracts.{Turning, stopping, goingOn, Ready, AbsReady, Turned, turn-stops, turn-goes, Ruled}

@@ -23,7 +23,8 @@ use Rattle.frames.specs.Stored.{Agree, EndAt, EntryBytes, bytes-single, bytes-p
 use Rattle.frames.specs.declared.FrameRecord.{FrameRecord}
 use Rattle.frames.proofs.Entries.{agree-refl, agree-part, agree-trans, bytes-start}
 use Rattle.verdict.specs.Bounds.{stateFits, waitingSize, waitingScope}
-use Rattle.verdict.specs.Verdict.{Waiting, terms, number, placeOf, state-outgrown, Progress, Run, stopped, turned, tested, copiedRule, enough}
+use Rattle.verdict.specs.Verdict.{number, placeOf, state-outgrown, Progress, Run, stopped, turned}
+use Rattle.recursion.specs.Recursion.{Waiting, terms, tested, copiedRule, enough}
 use Rattle.waiting.specs.Waiting.{queueLength, slotOf, within, Fitted, Puts, Written, TopPut}
 use Rattle.copies.specs.State.{Says, says-stopped, copiedNow, CopyAt, Room}
 use Rattle.copies.specs.Contracts.{Turning, nearStop, nearGo, withFrame, entering, stopping, goingOn, Ready, AbsReady, Stated, Turned, turn-stops, turn-goes, Ruled, Settled, settled-stops, settled-abs, Settles, Turns, Copies}

@@ -21,10 +21,11 @@ use Rattle.frames.specs.Stored.{Stored, frameSize as storedSize}
 use Rattle.frames.specs.declared.FrameRecord.{FrameRecord}
 use Rattle.frames.proofs.Laws.{stored-depth, stored-size}
 use Rattle.verdict.specs.Bounds.{frameSize, frameScope, waitingSize, waitingScope, stateSize, stateScope, stateFits}
-use Rattle.verdict.specs.Verdict.{Waiting, terms, liftWaiting, Ground, state-outgrown, Progress, Run, passed, stopped, andThen, turned, compareNext, tested, atTau, atVar, copiedRule, copiedFrom, enough, ownFrom}
+use Rattle.verdict.specs.Verdict.{Ground, state-outgrown, Progress, Run, passed, stopped, andThen, turned}
+use Rattle.recursion.specs.Recursion.{Waiting, terms, liftWaiting, compareNext, tested, atTau, atVar, copiedRule, copiedFrom, enough, ownFrom}
 use Rattle.verdict.proofs.Runs.{cond-both}
-use Rattle.verdict.proofs.Complete.{Adequate, adequate-var, adequate-app, adequate-abs, fits-body}
-use Rattle.verdict.proofs.Turns.{any-enough}
+use Rattle.recursion.proofs.Same.{Adequate, adequate-var, adequate-app, adequate-abs, fits-body}
+use Rattle.recursion.proofs.Same.{any-enough}
 use Rattle.waiting.specs.Waiting.{Part, within}
 use Rattle.copies.specs.State.{Sound, sound-empty, sound-single, sound-pair, Reached, Says, says-passed, says-stopped, says-never, copiedNow, Known, exact, fitting, Room}
 use Rattle.copies.specs.declared.Walked.{Walked}

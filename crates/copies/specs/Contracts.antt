@@ -10,7 +10,8 @@ use Rattle.calculus.specs.Frames.{Frame}
 use Rattle.code.specs.Limits.{longestState}
 use Rattle.frames.specs.Stored.{Agree, EndAt, pushed}
 use Rattle.frames.specs.declared.FrameRecord.{FrameRecord}
-use Rattle.verdict.specs.Verdict.{Waiting, terms, number, Progress, Run, turned, copiedRule, enough}
+use Rattle.verdict.specs.Verdict.{number, Progress, Run, turned}
+use Rattle.recursion.specs.Recursion.{Waiting, terms, copiedRule, enough}
 use Rattle.waiting.specs.Waiting.{queueLength, within}
 use Rattle.copies.specs.State.{Says, copiedNow, CopyAt, Room}
 use Rattle.copies.specs.declared.Walked.{Walked}

@@ -13,7 +13,8 @@ use Rattle.fields.specs.Fields.{GroupAt, Groups}
 use Rattle.frames.specs.Stored.{Stored}
 use Rattle.frames.specs.declared.FrameRecord.{FrameRecord}
 use Rattle.verdict.specs.Bounds.{waitingSize, waitingScope}
-use Rattle.verdict.specs.Verdict.{Waiting, terms, Ground, number, placeOf, Progress, Run, passed, stopped, copiedFrom, enough, not-reached}
+use Rattle.verdict.specs.Verdict.{Ground, number, placeOf, Progress, Run, passed, stopped, not-reached}
+use Rattle.recursion.specs.Recursion.{Waiting, terms, copiedFrom, enough}
 use Rattle.waiting.specs.Waiting.{Part, queueLength, Queue, within}
 use Rattle.copies.specs.declared.Walked.{Walked}
 use Rattle.copies.specs.declared.Copying.{Copying}

@@ -148,32 +148,45 @@ module _ {t : Term} where
       examined-whole s (omega (arith, ap length (h .bytes), length-encode t, a .short)) (whole s w .1 (t, a .decodes)) (a .decodes)
       ∙ rw (without-fault 0 (a .closed) (omega (arith, a .shallow)))
 
--- ---- What is refused. Its number is not 0.
-judged-number : (f : Fault) (t : Term) → answerOf (judged f t) .number ≡ 0 → f ≡ no-fault
-unfolding judged answerOf
-judged-number no-fault t e = refl
-judged-number (beyond p) t e = absurd (omega arith)
-judged-number (deep p) t e = absurd (omega arith)
+-- ---- What is refused: its number is one of 3 to 6.
+abbrev Known : Examined → Type 0
+Known (refused n p) = (3 ≤ n) × (n ≤ 6)
+Known (accepted t) = Unit {0}
+
+known-test : (b : Bool) (x y : Examined) → Known x → Known y → Known (cond b x y)
+known-test true x y k l = k
+known-test false x y k l = l
+
+judged-known : (f : Fault) (t : Term) → Known (judged f t)
+unfolding judged
+judged-known no-fault t = tt
+judged-known (beyond p) t = omega arith
+judged-known (deep p) t = omega arith
+
+decoded-known : (o : Option Term) → Known (decoded o)
+unfolding decoded
+decoded-known none = omega arith
+decoded-known (some t) = judged-known (inspect 0 0 t) t
+
+ended-known : (s : List ℕ) (o : Option ℕ) → Known (ended s o)
+unfolding ended
+ended-known s none = omega arith
+ended-known s (some e) = known-test (eqb e (length s)) (decoded (decode s)) (refused 3 e) (decoded-known (decode s)) (omega arith)
+
+known : (s : List ℕ) → Known (examined s)
+unfolding examined
+known s = known-test (leb (length s) longestTerm) (ended s (termEnd s 0)) (refused 4 0) (ended-known s (termEnd s 0)) (omega arith)
+
+pub numbers : (s : List ℕ) {n p : ℕ} → examined s ≡ refused n p → (3 ≤ n) × (n ≤ 6)
+numbers s e = rw e at (known s)
 
 pub number-zero : (s : List ℕ) → termAnswer s .number ≡ 0 → (t : Term) × (examined s ≡ accepted t)
-unfolding termAnswer examined ended decoded answerOf judged
-number-zero s e = test (leb (length s) longestTerm) e
+unfolding termAnswer answerOf
+number-zero s e = go (examined s) refl e
   where
-    term : (o : Option Term) → answerOf (decoded o) .number ≡ 0 → (t : Term) × (decoded o ≡ accepted t)
-    term none e = absurd (omega arith)
-    term (some t) e = (t, rw (judged-number (inspect 0 0 t) t e))
-
-    whole-term : (e : ℕ) (x : Bool) → answerOf (cond x (decoded (decode s)) (refused 3 e)) .number ≡ 0 → (t : Term) × (cond x (decoded (decode s)) (refused 3 e) ≡ accepted t)
-    whole-term e true h = term (decode s) h
-    whole-term e false h = absurd (omega arith)
-
-    one-term : (o : Option ℕ) → answerOf (ended s o) .number ≡ 0 → (t : Term) × (ended s o ≡ accepted t)
-    one-term none h = absurd (omega arith)
-    one-term (some e) h = whole-term e (eqb e (length s)) h
-
-    test : (x : Bool) → answerOf (cond x (ended s (termEnd s 0)) (refused 4 0)) .number ≡ 0 → (t : Term) × (cond x (ended s (termEnd s 0)) (refused 4 0) ≡ accepted t)
-    test true h = one-term (termEnd s 0) h
-    test false h = absurd (omega arith)
+    go : (x : Examined) → examined s ≡ x → answerOf x .number ≡ 0 → (t : Term) × (x ≡ accepted t)
+    go (refused n p) q z = absurd (omega (arith, numbers s q .0))
+    go (accepted t) q z = (t, refl)
 
 -- For a caller of `examine_term`: what its answer r says.
 pub record Accepting (s : List ℕ) (r : TermAnswer) : Type 0 where
@@ -208,7 +221,7 @@ examining-holds =
     record {
       accepts = λ s t w. (from-accepted s w, to-accepted s w);
       faultless = faultless;
-      number = number-zero;
+      numbers = λ s e. numbers s e;
       too-long = examined-long;
       even = even;
       coded = λ s t w e. let a = from-accepted s w e in closed-coded (a .closed) (omega (arith, a .shallow));

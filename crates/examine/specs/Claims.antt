@@ -24,8 +24,8 @@ pub record Examining : Type 0 where
   pub accepts : (s : List ℕ) (t : Term) → Bytes s → (examined s ≡ accepted t) ↔ Accepted s t
   pub faultless : (d i : ℕ) (t : Term) → d ≤ mostAbstractors → (inspect d i t ≡ no-fault) ↔ (Closed d t × (d + scope t ≤ mostAbstractors))
   pub coded : (s : List ℕ) (t : Term) → Bytes s → examined s ≡ accepted t → Coded t
-  -- number 0 is for accepted terms only
-  pub number : (s : List ℕ) → termAnswer s .number ≡ 0 → (t : Term) × (examined s ≡ accepted t)
+  -- a refusal has one of the numbers 3 to 6
+  pub numbers : (s : List ℕ) {n p : ℕ} → examined s ≡ refused n p → (3 ≤ n) × (n ≤ 6)
   -- 4,097 bytes give 4, and 4,096 give 3
   pub too-long : (s : List ℕ) → longestTerm < length s → examined s ≡ refused 4 0
   pub even : (s : List ℕ) → Bytes s → length s ≡ longestTerm → (p : ℕ) × (examined s ≡ refused 3 p)

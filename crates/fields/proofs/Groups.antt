@@ -59,7 +59,7 @@ span-of s at g =
 
 -- What the groups from a place on leave: a refusal, or groups that stand there.
 data GroupsView (s : List ℕ) (e at : ℕ) : Fields → Type 0 where
-  bad : {n p : ℕ} → 1 ≤ n → GroupsView s e at (refused n p)
+  bad : {n p : ℕ} → (1 ≤ n) × (n ≤ 4) → GroupsView s e at (refused n p)
   good : {gs : List GroupAt} → Groups s at gs → GroupsView s e at (accepted e gs)
 
 with-group : {s : List ℕ} {e at m : ℕ} {F : Fields} → GroupEnded s at m → GroupsView s e m F → GroupsView s e at (withGroup (groupAt s at) F)
@@ -80,7 +80,7 @@ groups-view (suc k) s e at h i = go (leb (length s) at) refl (group-view s at) (
 
 -- The same of a file.
 data FileView (s : List ℕ) : Fields → Type 0 where
-  bad : {n p : ℕ} → 1 ≤ n → FileView s (refused n p)
+  bad : {n p : ℕ} → (1 ≤ n) × (n ≤ 4) → FileView s (refused n p)
   good : {e : ℕ} {gs : List GroupAt} → Accepted s e gs → FileView s (accepted e gs)
 
 file-view : (s : List ℕ) → FileView s (readFile s)
@@ -116,7 +116,7 @@ accepted-only s q = view-accepted (subst (FileView s) q (file-view s))
 
 -- What the numbers of a file say of it.
 data LayoutView (s : List ℕ) (r : Layout) : Type 0 where
-  bad : 1 ≤ r .number → readFile s ≡ refused (r .number) (r .place) → r .end ≡ 0 → LayoutView s r
+  bad : (1 ≤ r .number) × (r .number ≤ 4) → readFile s ≡ refused (r .number) (r .place) → r .end ≡ 0 → LayoutView s r
   good : r .number ≡ 0 → AcceptedLayout s r → LayoutView s r
 
 layout-view : (s : List ℕ) {r : Layout} → r ≡ layoutOf (readFile s) → LayoutView s r
@@ -140,6 +140,12 @@ if-refused s {r = r} e n = go (layout-view s e)
     go : LayoutView s r → (readFile s ≡ refused (r .number) (r .place)) × (r .end ≡ 0)
     go (bad h q z) = (q, z)
     go (good q a) = absurd (n q)
+
+pub numbers : (s : List ℕ) {n p : ℕ} → readFile s ≡ refused n p → (1 ≤ n) × (n ≤ 4)
+numbers s q = go (subst (FileView s) q (file-view s))
+  where
+    go : {n p : ℕ} → FileView s (refused n p) → (1 ≤ n) × (n ≤ 4)
+    go (bad h) = h
 
 pub inside : (s : List ℕ) {r : Layout} → r ≡ layoutOf (readFile s) → r .end ≤ length s
 inside s {r = r} e = go (layout-view s e)

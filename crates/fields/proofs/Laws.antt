@@ -39,7 +39,7 @@ module _ (tag unit : ℕ) (s : List ℕ) (at : ℕ) where
 
 -- What a field's tests leave: a refusal, or the whole field up to e.
 pub data FieldView (tag unit : ℕ) (s : List ℕ) (at : ℕ) : Field → Type 0 where
-  fault : {n p : ℕ} → 1 ≤ n → FieldView tag unit s at (Fault n p)
+  fault : {n p : ℕ} → (1 ≤ n) × (n ≤ 4) → FieldView tag unit s at (Fault n p)
   whole : {e : ℕ} → e ≡ bodyEnd s at → Whole tag unit s at → FieldView tag unit s at (End e)
 
 pub field-view : (tag unit : ℕ) (s : List ℕ) (at : ℕ) → FieldView tag unit s at (fieldAt tag unit s at)
@@ -73,7 +73,7 @@ pub record GroupEnded (s : List ℕ) (at e : ℕ) : Type 0 where
   pub inside : e ≤ length s
 
 pub data GroupView (s : List ℕ) (at : ℕ) : Field → Type 0 where
-  fault : {n p : ℕ} → 1 ≤ n → GroupView s at (Fault n p)
+  fault : {n p : ℕ} → (1 ≤ n) × (n ≤ 4) → GroupView s at (Fault n p)
   whole : {e : ℕ} → GroupEnded s at e → GroupView s at (End e)
 
 right-view : {s : List ℕ} {at m : ℕ} {f : Field} → m ≡ bodyEnd s at → Whole 2 3 s at → FieldView 3 3 s m f → GroupView s at f

@@ -32,6 +32,8 @@ pub record Reading : Type 0 where
   pub if-accepted : (s : List ℕ) {r : Layout} → r ≡ layoutOf (readFile s) → r .number ≡ 0 → AcceptedLayout s r
   pub if-refused : (s : List ℕ) {r : Layout} → r ≡ layoutOf (readFile s) → (r .number ≡ 0 → ⊥)
       → (readFile s ≡ refused (r .number) (r .place)) × (r .end ≡ 0)
+  -- a refusal has one of the numbers 1, 2 and 4
+  pub numbers : (s : List ℕ) {n p : ℕ} → readFile s ≡ refused n p → (1 ≤ n) × (n ≤ 4)
   pub inside : (s : List ℕ) {r : Layout} → r ≡ layoutOf (readFile s) → r .end ≤ length s
   pub term-length : {s : List ℕ} {e : ℕ} {gs : List GroupAt} → Accepted s e gs → 3 + length (termBytes s e) ≡ e
   pub room : {s : List ℕ} {at : ℕ} {gs : List GroupAt} → Groups s at gs → at + 6 * length gs ≤ length s

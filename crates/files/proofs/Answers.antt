@@ -2,44 +2,48 @@
 -- Assumes nothing.
 use Prim.Native.Nat.{ℕ, zero, suc, _+_, _-_, _≤_, _<_}
 use mathlib.Core.Path.{_≡_, refl, ap, sym, _∙_}
-use mathlib.Core.Bool.{Bool, true, false, cond}
+use mathlib.Core.Bool.{true}
 use mathlib.Core.Logic.{_⊎_, inl, inr}
 use mathlib.Core.Option.{Option, none, some}
-use mathlib.Core.List.{List, [], _∷_, _++_, map, append-nil}
+use mathlib.Core.List.{List, [], _∷_, _++_, append-nil}
 use native.Mathlib.Nat.{zero-add}
 use native.Mathlib.Omega.{arith}
 use lib.Dec.{leb}
-use borrow.Author.Tests.{leb-true}
+use borrow.Author.Tests.{leb-true, ne-eqb}
 use lib.ListN.{length, drop, length-append, length-map, length-drop, drop-of-length-le}
 use Rattle.calculus.specs.Terms.{Term, applicators, size, Closed}
-use Rattle.calculus.specs.Frames.{ε, depth}
+use Rattle.calculus.specs.Frames.{Frame, ε, depth}
 use Rattle.calculus.specs.Types.{degree}
-use Rattle.calculus.specs.Rules.{Group, State, own, Plain, OnePass, o-i, o-iii, o-iv, o-v, o-vi, o-vii, o-viii, o-ix, o-x, o-xi, o-xii, groups, correct-empty}
-use Rattle.calculus.specs.Walks.{Comparison, AllMet, End, plainNext, WalkFrom}
+use Rattle.calculus.specs.Steps.{Step, Kind, kindOf, reached, stepOf, step}
+use Rattle.calculus.specs.Rules.{Group, own, Next, onePassNext, Holds, nothing-left, met, by-rule, OnePass, groups, correct-empty}
+use Rattle.calculus.proofs.Lift.{lo, hi, cmp}
+use Rattle.calculus.proofs.Weaken.{refused-reached}
+use Rattle.calculus.proofs.Places.{step-past}
 use Rattle.calculus.proofs.Agree.{plain-of-one-pass, length-groups}
 use Rattle.calculus.proofs.Closed.{plain-closed}
 use Rattle.calculus.proofs.Promises.{demanding}
 use Rattle.code.specs.Limits.{longestFile, longestTerm, longestState, mostAbstractors}
-use Rattle.code.specs.Code.{Bytes, Coded, encode, decode}
+use Rattle.code.specs.Code.{Bytes, encode}
 use Rattle.code.specs.Scope.{scope}
-use Rattle.code.proofs.RoundTrip.{decode-encode, encode-bytes, length-encode, bytes-drop}
+use Rattle.code.proofs.RoundTrip.{decode-encode, encode-bytes, bytes-drop}
 use Rattle.code.proofs.Scope.{closed-coded}
-use Rattle.fields.specs.Fields.{GroupAt, Fields, readFile, termBytes, layoutOf}
+use Rattle.fields.specs.Fields.{GroupAt, Fields, readFile, termBytes}
 use Rattle.fields.specs.Fields as fields
-use Rattle.fields.specs.Files.{writeFile, GroupsFit, placed}
-use Rattle.fields.proofs.Groups.{if-accepted, accepts}
-use Rattle.fields.proofs.Written.{read-back, same-term, same-groups}
+use Rattle.fields.specs.Files.{writeFile, StepsFit, GroupsFit, placed}
+use Rattle.fields.specs.Files as files
+use Rattle.fields.proofs.Groups.{numbers as fields-numbers}
+use Rattle.fields.proofs.Written.{read-back, same-term, same-groups, in-bytes}
 use Rattle.examine.specs.Inspect.{Examined, examined, termAnswer}
 use Rattle.examine.specs.Inspect as term
 use Rattle.examine.proofs.Laws.{examining-holds}
-use Rattle.verdict.specs.Bounds.{stateFits, stateScope, stateSize, frameScope, waitingScope}
-use Rattle.verdict.specs.Verdict.{Progress, Run, passed, stopped, checkTerm, number, placeOf, Ground, not-reached}
-use Rattle.verdict.specs.Claims.{Fits, Within, ended}
+use Rattle.verdict.specs.Bounds.{bodyFits, stateFits, stateScope, stateSize, frameScope, waitingScope}
+use Rattle.verdict.specs.Verdict.{Progress, Run, passed, stopped, checkTerm, number, Ground}
+use Rattle.verdict.specs.Claims.{Fits, FormsFit, no-form, next-form, AllFit, progressOf}
 use Rattle.verdict.proofs.Runs.{cond-both}
 use Rattle.verdict.proofs.Promises.{passing, stopping}
 use Rattle.files.specs.File.{Opened, refused, opened, openTerm, openFields, openFile}
 use Rattle.files.specs.Check.{CheckAnswer, groupsOf, leftOver, answerOf, checkOpened, checkFile}
-use Rattle.files.specs.Claims.{Accepted, Accepting, Refusing}
+use Rattle.files.specs.Claims.{Accepted, WithinLimits, Accepting, Refusing}
 
 -- WHAT OPENS
 opened-inj-term : {t u : Term} {e f : ℕ} {gs hs : List GroupAt} → opened t e gs ≡ opened u f hs → (t ≡ u) × (e ≡ f) × (gs ≡ hs)
@@ -83,62 +87,21 @@ term-bytes s e b = bytes-take (e - 3) (drop 3 s) (bytes-drop 3 s b)
 opens-closed : {s : List ℕ} {t : Term} {e : ℕ} {gs : List GroupAt} → Bytes s → Opens s t e gs → Closed 0 t
 opens-closed {s} {t} {e} b o = examining-holds .accepts (termBytes s e) t (term-bytes s e b) .0 (o .term-is) .closed
 
--- NO REFUSAL HAS NUMBER 0
-refused-accepted : {A : Type 0} {n p e : ℕ} {gs : List GroupAt} → fields.refused n p ≡ fields.accepted e gs → A
-refused-accepted q = let z : _≡_ {A = ℕ} 0 1 = cc in let y : ⊥ = omega arith in absurd y
-
-fields-number : (s : List ℕ) (n p : ℕ) → readFile s ≡ fields.refused n p → n ≡ 0 → ⊥
-fields-number s n p h q =
-    let a = if-accepted s refl (ap (λ (x : Fields). layoutOf x .number) h ∙ q) in
-    refused-accepted (sym h ∙ accepts (a .is))
-
-term-refused-accepted : {A : Type 0} {n p : ℕ} {t : Term} → term.refused n p ≡ term.accepted t → A
-term-refused-accepted q = let z : _≡_ {A = ℕ} 0 1 = cc in let y : ⊥ = omega arith in absurd y
-
-term-number : (s : List ℕ) (n p : ℕ) → examined s ≡ term.refused n p → n ≡ 0 → ⊥
-unfolding termAnswer term.answerOf
-term-number s n p h q =
-    let a = examining-holds .number s (ap (λ (x : Examined). term.answerOf x .number) h ∙ q) in
-    term-refused-accepted (sym h ∙ a .1)
-
+-- REFUSED BEFORE THE WALK: one of the numbers 1 to 6
 refused-inj : {n m p q : ℕ} → refused n p ≡ refused m q → n ≡ m
 refused-inj e = cc
 
-open-number : (s : List ℕ) (n p : ℕ) → openFile s ≡ refused n p → n ≡ 0 → ⊥
+before-numbers : (s : List ℕ) {n p : ℕ} → openFile s ≡ refused n p → (1 ≤ n) × (n ≤ 6)
 unfolding openFile openFields openTerm
-open-number s n p q z = go (readFile s) refl q
+before-numbers s {n} {p} q = go (readFile s) refl q
   where
-    in-term : (e : ℕ) (gs : List GroupAt) (x : Examined) → examined (termBytes s e) ≡ x → openTerm e gs x ≡ refused n p → ⊥
-    in-term e gs (term.refused m r) h q = term-number (termBytes s e) m r h (refused-inj q ∙ z)
+    in-term : (e : ℕ) (gs : List GroupAt) (x : Examined) → examined (termBytes s e) ≡ x → openTerm e gs x ≡ refused n p → (1 ≤ n) × (n ≤ 6)
+    in-term e gs (term.refused m r) h q = omega (arith, refused-inj q, examining-holds .numbers (termBytes s e) h)
     in-term e gs (term.accepted t) h q = refused-opened (sym q)
 
-    go : (x : Fields) → readFile s ≡ x → openFields s x ≡ refused n p → ⊥
-    go (fields.refused m r) h q = fields-number s m r h (refused-inj q ∙ z)
+    go : (x : Fields) → readFile s ≡ x → openFields s x ≡ refused n p → (1 ≤ n) × (n ≤ 6)
+    go (fields.refused m r) h q = omega (arith, refused-inj q, fields-numbers s h)
     go (fields.accepted e gs) h q = in-term e gs (examined (termBytes s e)) refl q
-
--- NUMBERS 7 to 12 of a ground
-data Numbered (g : Ground) : Type 0 where
-  numbered : 7 ≤ number g → number g ≤ 12 → Numbered g
-  never : (i : ℕ) → g ≡ not-reached i → Numbered g
-
-ground-number : (g : Ground) → Numbered g
-unfolding number
-ground-number (Ground.untyped i) = numbered (omega arith) (omega arith)
-ground-number (Ground.something-waits i n) = numbered (omega arith) (omega arith)
-ground-number (Ground.no-group i) = numbered (omega arith) (omega arith)
-ground-number (Ground.step-refused i s n r) = numbered (omega arith) (omega arith)
-ground-number (Ground.state-outgrown i) = numbered (omega arith) (omega arith)
-ground-number (Ground.type-outgrown i) = numbered (omega arith) (omega arith)
-ground-number (Ground.domain-outgrown i) = numbered (omega arith) (omega arith)
-ground-number (Ground.step-outgrown i s n) = numbered (omega arith) (omega arith)
-ground-number (Ground.bodies-differ i l r) = numbered (omega arith) (omega arith)
-ground-number (Ground.not-reached i) = never i refl
-
-stopped-number : (t : Term) (gs : List Group) (g : Ground) (q : Progress) → Closed 0 t → checkTerm t gs ≡ stopped g q → (7 ≤ number g) × (number g ≤ 12)
-stopped-number t gs g q c h = elim (ground-number g) [
-  | numbered a b ↦ (a, b)
-  | never i e ↦ absurd (stopping .always-a-number t gs i q c (h ∙ ap (λ (x : Ground). stopped x q) e))
-]
 
 -- ACCEPTED
 left-none : (n d : ℕ) (gs : List GroupAt) → leftOver n d gs .number ≡ 0 → gs ≡ []
@@ -173,10 +136,10 @@ module _ (s : List ℕ) (t : Term) (e : ℕ) (gs : List GroupAt) (o : openFile s
         closed = c;
         one-pass = r .0;
         own-steps = sym (r .2 ∙ ap (λ (l : List Group). groups (r .0) ++ l) empty ∙ append-nil (groups (r .0)));
-        plain = plain-of-one-pass correct-empty (r .0);
+        plain = plain-of-one-pass ε [] t correct-empty (r .0);
         comparisons = ap (λ (a : CheckAnswer). a .comparisons) (k ∙ ap (leftOver (q .comparisons) (degree ε t)) none-left) ∙ apps;
         groups-too = omega (arith, many, r .3, length-map gs (λ (g : GroupAt). g .group), apps, ap length empty);
-        plain-met = demanding .plain-met (r .0);
+        plain-met = demanding .plain-met t (r .0);
         degree-is = ap (λ (a : CheckAnswer). a .degree) (k ∙ ap (leftOver (q .comparisons) (degree ε t)) none-left);
       }
 
@@ -191,49 +154,36 @@ only s b z = go (openFile s) refl
     run : (t : Term) (e : ℕ) (gs : List GroupAt) → openFile s ≡ opened t e gs → Closed 0 t → (x : Run) → checkTerm t (groupsOf gs) ≡ x → Accepted s t gs
     run t e gs o c (passed q) h = accepted-run s t e gs o c q h z
     run t e gs o c (stopped g q) h =
-        let n = stopped-number t (groupsOf gs) g q c h in
+        let n = stopping .numbers t (groupsOf gs) g q c h in
         let k = sym (ap (λ (a : CheckAnswer). a .number) (check-is s t e gs o c (stopped g q) h)) ∙ z in
         let y : ⊥ = omega (arith, n .0, k, stopped-answer (degree ε t) gs g q) in absurd y
 
     go : (o : Opened) → openFile s ≡ o → (t : Term) × (e : ℕ) × (gs : List GroupAt) × (openFile s ≡ opened t e gs) × Accepted s t gs
-    go (refused n p) h = absurd (open-number s n p h (sym (ap (λ (o : Opened). checkOpened o .number) h) ∙ z))
+    go (refused n p) h = absurd (omega (arith, before-numbers s h, sym (ap (λ (o : Opened). checkOpened o .number) h) ∙ z))
     go (opened t e gs) h = (t, e, gs, h, run t e gs h (opens-closed b (opens s t e gs h)) (checkTerm t (groupsOf gs)) refl)
 
 -- EVERY CORRECT TERM, within the limits, has an accepted file
-within-fits : {s : State} (d : OnePass s) → Within d → Fits s
-within-fits o-i w = w
-within-fits (o-iii c d) w = w .0
-within-fits (o-iv c d) w = w .0
-within-fits (o-v c m d) w = w .0
-within-fits o-vi w = w
-within-fits (o-vii d) w = w .0
-within-fits (o-viii h d) w = w .0
-within-fits (o-ix d) w = w .0
-within-fits (o-x d) w = w .0
-within-fits (o-xi d m) w = w .0
-within-fits (o-xii d) w = w .0
-
-start-scope : (t : Term) (d : OnePass (own ε [] t)) → Within d → scope t ≤ mostAbstractors
+start-scope : (t : Term) → Fits (own ε [] t) → scope t ≤ mostAbstractors
 unfolding stateFits stateScope frameScope waitingScope depth
-start-scope t d w =
-    let b = cond-both (leb (stateSize (own ε [] t)) longestState) (leb (stateScope (own ε [] t)) mostAbstractors) (within-fits d w) in
+start-scope t f =
+    let b = cond-both (leb (stateSize (own ε [] t)) longestState) (leb (stateScope (own ε [] t)) mostAbstractors) f in
     omega (arith, leb-true (stateScope (own ε [] t)) mostAbstractors (b .1))
 
 start-closed : (t : Term) → OnePass (own ε [] t) → Closed 0 t
 unfolding depth
-start-closed t d = plain-closed (plain-of-one-pass correct-empty d)
+start-closed t d = plain-closed ε [] t (plain-of-one-pass ε [] t correct-empty d)
 
 -- the file that is written opens as the term and its groups
-written-opens : (t : Term) (d : OnePass (own ε [] t)) → Within d → size t ≤ longestTerm → length (writeFile (encode t) (groups d)) ≤ longestFile
+written-opens : (t : Term) (d : OnePass (own ε [] t)) → Fits (own ε [] t) → size t ≤ longestTerm → length (writeFile (encode t) (groups d)) ≤ longestFile
     → openFile (writeFile (encode t) (groups d)) ≡ opened t (3 + length (encode t)) (placed (3 + length (encode t)) (groups d))
 unfolding openFile openFields openTerm
-written-opens t d w short long =
+written-opens t d f short long =
     let c = start-closed t d in
-    let k = closed-coded c (omega (arith, start-scope t d w)) in
+    let k = closed-coded c (omega (arith, start-scope t f)) in
     let s = writeFile (encode t) (groups d) in
     let e = 3 + length (encode t) in
     let gs = placed e (groups d) in
-    let x = examining-holds .accepts (encode t) t (encode-bytes k) .1 (record { decodes = decode-encode k; short = short; closed = c; shallow = start-scope t d w }) in
+    let x = examining-holds .accepts (encode t) t (encode-bytes k) .1 (record { decodes = decode-encode k; short = short; closed = c; shallow = start-scope t f }) in
     ap (openFields s) (read-back (encode t) (groups d) long)
     ∙ ap (λ (b : List ℕ). openTerm e gs (examined b)) (same-term (encode t) (groups d))
     ∙ ap (openTerm e gs) x
@@ -242,18 +192,66 @@ all-answer : (n m d : ℕ) (gs : List GroupAt) → length gs ≤ n → n ≡ m �
 unfolding leftOver
 all-answer n m d gs h q = ap (leftOver n d) (drop-of-length-le gs h) ∙ ap (λ (k : ℕ). record { number = 0; place = 0; comparisons = k; degree = d }) q
 
-all : (t : Term) (d : OnePass (own ε [] t)) → Within d → size t ≤ longestTerm → GroupsFit (groups d) → length (writeFile (encode t) (groups d)) ≤ longestFile
+accepted-file : (t : Term) (d : OnePass (own ε [] t)) → WithinLimits t d
     → checkFile (writeFile (encode t) (groups d)) ≡ record { number = 0; place = 0; comparisons = applicators t; degree = degree ε t }
 unfolding answerOf
-all t d w short fits long =
+accepted-file t d w =
     let e = 3 + length (encode t) in
     let gs = placed e (groups d) in
-    let r = passing .complete t d w [] in
+    let r = passing .complete t d (w .states-and-forms) [] in
     let same : groupsOf gs ≡ groups d = same-groups e (groups d) in
     let h : checkTerm t (groupsOf gs) ≡ passed (r .0) = ap (checkTerm t) (same ∙ sym (append-nil (groups d))) ∙ r .1 in
     let many = length-map gs (λ (g : GroupAt). g .group) in
-    check-is (writeFile (encode t) (groups d)) t e gs (written-opens t d w short long) (start-closed t d) (passed (r .0)) h
-    ∙ all-answer (r .0 .comparisons) (applicators t) (degree ε t) gs (omega (arith, r .3, many, ap length same)) (r .3 ∙ length-groups d ∙ zero-add (applicators t))
+    check-is (writeFile (encode t) (groups d)) t e gs (written-opens t d (w .states-and-forms .first) (w .term) (w .file)) (start-closed t d) (passed (r .0)) h
+    ∙ all-answer (r .0 .comparisons) (applicators t) (degree ε t) gs (omega (arith, r .3, many, ap length same)) (r .3 ∙ length-groups ε [] t d ∙ zero-add (applicators t))
+
+-- a step that is not refused has one of the known kinds, and its place is in the body
+known-kind : (n : ℕ) → 256 ≤ n → kindOf n ≡ none
+unfolding kindOf
+known-kind n h = rw (ne-eqb n 1 (λ e. omega arith), ne-eqb n 2 (λ e. omega arith))
+
+step-kind : (R : Frame) (s : Step) (t : Term) {u : Term} → step R s t ≡ reached u → s .kind < 256
+unfolding step stepOf
+step-kind R s t e = elim (cmp 256 (s .kind)) [
+  | lo h ↦ refused-reached (rw (known-kind (s .kind) h) at e)
+  | hi h ↦ h
+]
+
+step-place : (R : Frame) (s : Step) (t : Term) {u : Term} → step R s t ≡ reached u → s .place < size t
+unfolding step stepOf
+step-place R s t e = elim (cmp (size t) (s .place)) [
+  | lo h ↦ go (kindOf (s .kind)) h e
+  | hi h ↦ h
+]
+  where
+    go : {u : Term} (o : Option Kind) → size t ≤ s .place → stepOf o R t (s .place) ≡ reached u → s .place < size t
+    go none h q = refused-reached q
+    go (some κ) h q = refused-reached (sym (step-past κ R none t (s .place) h) ∙ q)
+
+fits-short : (R : Frame) (t : Term) → bodyFits R t ≡ true → size t ≤ longestTerm
+unfolding bodyFits
+fits-short R t e = leb-true (size t) longestTerm (cond-both (leb (size t) longestTerm) (leb (depth R + scope t) mostAbstractors) e .0)
+
+steps-fit : {R : Frame} {ss : List Step} (t : Term) → bodyFits R t ≡ true → FormsFit R ss t → StepsFit ss
+steps-fit t b no-form = files.none
+steps-fit {R} t b (next-form {s = s} {u = u} e c f) = files.step {x = s} (step-kind R s t e) (omega (arith, step-place R s t e, fits-short R t b)) (steps-fit u c f)
+
+groups-append : {gs hs : List Group} → GroupsFit gs → GroupsFit hs → GroupsFit (gs ++ hs)
+groups-append files.none f = f
+groups-append (files.group l r f) g = files.group l r (groups-append f g)
+
+groups-fit : {n : Next} (d : Holds onePassNext n) → AllFit d → GroupsFit (groups d)
+unfolding groups
+groups-fit nothing-left w = files.none
+groups-fit (met {U = U} s d) w = files.group (steps-fit (s .typ) (w .0 .type-fits) (w .0 .left-fits)) (steps-fit U (w .0 .domain-fits) (w .0 .right-fits)) (groups-fit d (w .1))
+groups-fit (by-rule c d) w = groups-append (groups-fit c (w .1)) (groups-fit d (w .2))
+
+all : (t : Term) (d : OnePass (own ε [] t)) → WithinLimits t d
+    → Bytes (writeFile (encode t) (groups d))
+    × (checkFile (writeFile (encode t) (groups d)) ≡ record { number = 0; place = 0; comparisons = applicators t; degree = degree ε t })
+all t d w =
+    let k = closed-coded (start-closed t d) (omega (arith, start-scope t (w .states-and-forms .first))) in
+    (in-bytes (encode t) (groups d) (w .file) (record { small = encode-bytes k }) (groups-fit d (w .states-and-forms .others)) .small, accepted-file t d w)
 
 pub accepting : Accepting
 accepting = record { only = only; all = all }
@@ -282,7 +280,7 @@ numbers s {t} {e} {gs} b o z = go (checkTerm t (groupsOf gs)) refl
     c = opens-closed b (opens s t e gs o)
 
     go : (x : Run) → checkTerm t (groupsOf gs) ≡ x → (7 ≤ checkFile s .number) × (checkFile s .number ≤ 13)
-    go (stopped g q) h = let n = stopped-number t (groupsOf gs) g q c h in rw (check-is s t e gs o c (stopped g q) h) (n .0, omega (arith, n .1))
+    go (stopped g q) h = let n = stopping .numbers t (groupsOf gs) g q c h in rw (check-is s t e gs o c (stopped g q) h) (n .0, omega (arith, n .1))
     go (passed q) h =
         let k = ap (λ (a : CheckAnswer). a .number) (check-is s t e gs o c (passed q) h) in
         elim (left-number (q .comparisons) (degree ε t) (drop (q .comparisons) gs)) [
@@ -290,8 +288,8 @@ numbers s {t} {e} {gs} b o z = go (checkTerm t (groupsOf gs)) refl
           | inr y ↦ (omega (arith, k, y), omega (arith, k, y))
         ]
 
-run-answer : (d : ℕ) (gs : List GroupAt) (x : Run) → (answerOf d gs x .comparisons ≡ ended x .comparisons) × (answerOf d gs x .degree ≡ d)
-unfolding answerOf ended
+run-answer : (d : ℕ) (gs : List GroupAt) (x : Run) → (answerOf d gs x .comparisons ≡ progressOf x .comparisons) × (answerOf d gs x .degree ≡ d)
+unfolding answerOf progressOf
 run-answer d gs (passed q) = left-comparisons (q .comparisons) d (drop (q .comparisons) gs)
 run-answer d gs (stopped g q) = (refl, refl)
 
@@ -308,4 +306,4 @@ degrees : (s : List ℕ) {t : Term} {e : ℕ} {gs : List GroupAt} → openFile s
 degrees s {t} {e} {gs} o = ap (λ (a : CheckAnswer). a .degree) (check-run s o) ∙ run-answer (degree ε t) gs (checkTerm t (groupsOf gs)) .1
 
 pub refusing : Refusing
-refusing = record { before = before; numbers = numbers; at-most = at-most; degrees = degrees }
+refusing = record { before = before; before-numbers = before-numbers; numbers = numbers; at-most = at-most; degrees = degrees }

@@ -17,7 +17,8 @@ use Rattle.code.specs.Code.{encode, Coded}
 use Rattle.code.specs.Scope.{scope}
 use Rattle.verdict.specs.Bounds.{bodyFits}
 use Rattle.binders.specs.Paths.{subterm, replace, frameAt}
-use Rattle.binders.proofs.Laws.{step-past, size-replace, scope-replace, scope-replaced}
+use Rattle.calculus.proofs.Places.{step-past}
+use Rattle.binders.proofs.Laws.{size-replace, scope-replace, scope-replaced}
 use Rattle.frames.specs.declared.FrameRecord.{FrameRecord}
 use Rattle.frames.specs.Body.{Body}
 use Rattle.steps.specs.declared.Stepped.{Stepped}

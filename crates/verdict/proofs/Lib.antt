@@ -1,7 +1,8 @@
 pub mod Runs
-pub mod Sound
-pub mod Complete
-pub mod Count
-pub mod Never
 pub mod Turns
+pub mod BigStep
+pub mod Sound
+pub mod Stop
+pub mod Laws
 pub mod Promises
+pub mod Table

@@ -1,24 +1,25 @@
--- What this crate promises of the bounded check. The function of the same name (src/lib.rt) ensures each record.
+-- What this crate promises of the bounded check. A function of src/lib.rt ensures each record that it names.
 -- Assumes nothing.
-use Prim.Native.Nat.{ℕ, zero, suc, _+_, _≤_}
+use Prim.Native.Nat.{ℕ, zero, suc, _+_, _≤_, _<_}
 use mathlib.Core.Path.{_≡_}
-use mathlib.Core.Bool.{true}
-use mathlib.Core.Logic.{_↔_}
+use mathlib.Core.Bool.{true, false}
 use mathlib.Core.List.{List, [], _∷_, _++_}
 use lib.ListN.{length}
-use Rattle.calculus.specs.Terms.{Term, tau, var, app, abs, applicators, Closed}
+use Rattle.calculus.specs.Terms.{Term, app, abs, size, applicators, Closed}
 use Rattle.calculus.specs.Frames.{Frame, ε, _▹_, single, pair}
 use Rattle.calculus.specs.Steps.{Step, step, reached}
-use Rattle.calculus.specs.Rules.{Group, Same, State, own, copied, OnePass, o-i, o-iii, o-iv, o-v, o-vi, o-vii, o-viii, o-ix, o-x, o-xi, o-xii, groups, Plain}
+use Rattle.calculus.specs.Rules.{Group, Same, liftAll, State, own, Next, asks, stops, onePassNext, Holds, nothing-left, met, by-rule, OnePass, groups}
+use Rattle.calculus.specs.Walks.{ownStates}
 use Rattle.verdict.specs.Bounds.{stateFits, bodyFits}
-use Rattle.verdict.specs.Verdict.{Ground, something-waits, not-reached, Progress, Run, passed, stopped, checkTerm}
+use Rattle.verdict.specs.Verdict.{Item, state-at, same-at, placed, Ground, state-outgrown, not-reached, groundOf, Progress, turned, Run, passed, stopped, andThen, Status, at-turn, done, turn, steps, finish, start, checkTerm, number}
 
--- Every form that a list of steps carries a body to is within the limits.
+-- WITHIN THE LIMITS
+-- Every form that a list of steps carries a body to.
 pub data FormsFit (R : Frame) : List Step → Term → Type 0 where
   no-form : {t : Term} → FormsFit R [] t
   next-form : {s : Step} {ss : List Step} {t u : Term} → step R s t ≡ reached u → bodyFits R u ≡ true → FormsFit R ss u → FormsFit R (s ∷ ss) t
 
--- A comparison whose bodies are all within the limits.
+-- The bodies of a comparison.
 pub record SameFits {R : Frame} {K U : Term} (s : Same R K U) : Type 0 where
   pub type-fits : bodyFits R (s .typ) ≡ true
   pub domain-fits : bodyFits R U ≡ true
@@ -28,38 +29,72 @@ pub record SameFits {R : Frame} {K U : Term} (s : Same R K U) : Type 0 where
 abbrev pub Fits : State → Type 0
 Fits s = stateFits s ≡ true
 
--- A one-pass derivation whose states and compared forms are all within the limits.
-abbrev pub Within : {s : State} → OnePass s → Type 0
-Within (o-i {R = R}) = Fits (own R [] tau)
-Within (o-iii {R = R} {W = W} {K = K} {B = B} c d) = Fits (own R W (app K B)) × Within c × Within d
-Within (o-iv {R = R} {U = U} {B = B} c d) = Fits (own R [] (abs U B)) × Within c × Within d
-Within (o-v {R = R} {W = W} {K = K} {U = U} {B = B} c s d) = Fits (own R (K ∷ W) (abs U B)) × Within c × SameFits s × Within d
-Within (o-vi {R = R}) = Fits (copied R [] [] tau)
-Within (o-vii {R = R} {W = W} {k = k} d) = Fits (own R W (var k)) × Within d
-Within (o-viii {R = R} {W = W} {Y = Y} {k = k} h d) = Fits (copied R W Y (var k)) × Within d
-Within (o-ix {R = R} {W = W} {Y = Y} {K = K} {B = B} d) = Fits (copied R W Y (app K B)) × Within d
-Within (o-x {R = R} {U = U} {B = B} d) = Fits (copied R [] [] (abs U B)) × Within d
-Within (o-xi {R = R} {W = W} {K = K} {U = U} {B = B} d s) = Fits (copied R (K ∷ W) [] (abs U B)) × SameFits s × Within d
-Within (o-xii {R = R} {W = W} {Y = Y} {K = K} {U = U} {B = B} d) = Fits (copied R W (K ∷ Y) (abs U B)) × Within d
+-- What a state is replaced by: every state that it leads to, and every comparison.
+abbrev pub AllFit : {next : State → Next} {n : Next} → Holds next n → Type 0
+AllFit nothing-left = Unit {0}
+AllFit (met s d) = SameFits s × AllFit d
+AllFit (by-rule {s = s} c d) = Fits s × AllFit c × AllFit d
+
+-- A derivation of a state, all of whose states and compared forms are within the limits.
+pub record Within (s : State) (d : OnePass s) : Type 0 where
+  pub first : Fits s
+  pub others : AllFit d
 
 -- 1. What passes, and what must pass.
 pub record Passing : Type 0 where
   -- the one-pass rules hold with the groups that were taken, within the limits, one completed comparison for each
   pub sound : (t : Term) (gs : List Group) (q : Progress) → checkTerm t gs ≡ passed q
-      → (d : OnePass (own ε [] t)) × Within d × (gs ≡ groups d ++ q .left) × (q .comparisons ≡ length (groups d))
+      → (d : OnePass (own ε [] t)) × Within (own ε [] t) d × (gs ≡ groups d ++ q .left) × (q .comparisons ≡ length (groups d))
   -- a derivation within the limits passes with its own groups
-  pub complete : (t : Term) (d : OnePass (own ε [] t)) → Within d → (rest : List Group)
+  pub complete : (t : Term) (d : OnePass (own ε [] t)) → Within (own ε [] t) d → (rest : List Group)
       → (q : Progress) × (checkTerm t (groups d ++ rest) ≡ passed q) × (q .left ≡ rest) × (q .comparisons ≡ length (groups d))
 
 -- The progress at which a run ends.
-unfoldable pub ended : Run → Progress
-ended (passed q) = q
-ended (stopped g q) = q
+unfoldable pub progressOf : Run → Progress
+progressOf (passed q) = q
+progressOf (stopped g q) = q
 
--- 2. Whatever happens: how many comparisons are completed, and what never stops a check.
+-- 2. Whatever happens: how many comparisons are completed, and which numbers a stop has.
 pub record Stopping : Type 0 where
-  pub at-most-applicators : (t : Term) (gs : List Group) → ended (checkTerm t gs) .comparisons ≤ applicators t
-  pub at-most-groups : (t : Term) (gs : List Group) → ended (checkTerm t gs) .comparisons ≤ length gs
+  pub at-most-applicators : (t : Term) (gs : List Group) → progressOf (checkTerm t gs) .comparisons ≤ applicators t
+  pub at-most-groups : (t : Term) (gs : List Group) → progressOf (checkTerm t gs) .comparisons ≤ length gs
   pub all-applicators : (t : Term) (gs : List Group) (q : Progress) → checkTerm t gs ≡ passed q → q .comparisons ≡ applicators t
-  -- so that every stop has one of the numbers 7 to 12, and 8 has a last of W
-  pub always-a-number : (t : Term) (gs : List Group) (i : ℕ) (q : Progress) → Closed 0 t → checkTerm t gs ≡ stopped (not-reached i) q → ⊥
+  -- so that 8 has a last of W
+  pub numbers : (t : Term) (gs : List Group) (g : Ground) (q : Progress) → Closed 0 t → checkTerm t gs ≡ stopped g q → (7 ≤ number g) × (number g ≤ 12)
+
+-- 3. An agenda is checked question by question.
+-- A state that fits, and then what replaces it.
+unfoldable pub follow : ℕ → List ℕ → Next → Progress → Run
+follow place ws (asks qs) p = finish (placed place (suc place) ws qs) p
+follow place ws (stops x) p = stopped (groundOf place ws x) p
+
+pub record Running : Type 0 where
+  pub nothing : (p : Progress) → finish [] p ≡ passed p
+  -- running a list of questions is running its first part and then the rest
+  pub in-parts : (is js : List Item) (p : Progress) → finish (is ++ js) p ≡ andThen (finish is p) (finish js)
+  pub outgrown : (i : ℕ) (ws : List ℕ) (s : State) (p : Progress) → stateFits s ≡ false → finish (state-at i ws s ∷ []) p ≡ stopped (state-outgrown i) (turned 1 p)
+  pub by-its-rule : (i : ℕ) (ws : List ℕ) (s : State) (p : Progress) → Fits s → finish (state-at i ws s ∷ []) p ≡ follow i ws (onePassNext s) (turned 1 p)
+  -- so in the term's own text: K before the rest; U, then the comparison, then the rest
+  pub at-app : (i : ℕ) (ws : List ℕ) (R : Frame) (W : List Term) (K B : Term) (p : Progress) → length ws ≡ length W → Fits (own R W (app K B))
+      → finish (state-at i ws (own R W (app K B)) ∷ []) p
+      ≡ andThen (finish (state-at (suc i) [] (own R [] K) ∷ []) (turned 1 p)) (finish (state-at (suc i + size K) (i ∷ ws) (own R (K ∷ W) B) ∷ []))
+  pub at-abs : (i : ℕ) (R : Frame) (U B : Term) (p : Progress) → Fits (own R [] (abs U B))
+      → finish (state-at i [] (own R [] (abs U B)) ∷ []) p
+      ≡ andThen (finish (state-at (suc i) [] (own R [] U) ∷ []) (turned 1 p)) (finish (state-at (suc i + size U) [] (own (R ▹ single U) [] B) ∷ []))
+  pub at-pair : (i j : ℕ) (ws : List ℕ) (R : Frame) (W : List Term) (K U B : Term) (p : Progress) → length ws ≡ length W → Fits (own R (K ∷ W) (abs U B))
+      → finish (state-at i (j ∷ ws) (own R (K ∷ W) (abs U B)) ∷ []) p
+      ≡ andThen (finish (state-at (suc i) [] (own R [] U) ∷ []) (turned 1 p)) (λ q. andThen (finish (same-at j R K U ∷ []) q)
+      (finish (state-at (suc i + size U) ws (own (R ▹ pair K U) (liftAll W) B) ∷ [])))
+
+-- 4. Turn by turn. The status after n turns.
+unfoldable pub afterTurns : ℕ → Status → Status
+afterTurns zero a = a
+afterTurns (suc n) (at-turn c p) = afterTurns n (turn c (turned 1 p))
+afterTurns (suc n) (done x) = done x
+
+pub record Turning : Type 0 where
+  -- the answer comes with exactly the turns that it counts
+  pub to-the-end : (t : Term) (gs : List Group) → afterTurns (progressOf (checkTerm t gs) .turns) (start t gs) ≡ done (checkTerm t gs)
+  pub not-before : (t : Term) (gs : List Group) (n : ℕ) (x : Run) → n < progressOf (checkTerm t gs) .turns → afterTurns n (start t gs) ≡ done x → ⊥
+  -- and there are no more than states and steps
+  pub at-most : (t : Term) (gs : List Group) → progressOf (checkTerm t gs) .turns ≤ ownStates [] t + steps gs

@@ -3,3 +3,4 @@
 pub mod Bounds
 pub mod Verdict
 pub mod Claims
+pub mod Examples

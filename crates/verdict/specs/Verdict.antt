@@ -1,41 +1,45 @@
 -- The bounded check of a term with the supplied groups: the one-pass rules, each step replayed, within the limits
--- (document 01, 'The one-pass rules' and 'Sorted by what stops a check'; 001, section 5.8). It knows more than the answer
--- shows: which side, step and reason; how many wait; the two bodies; the states and steps taken.
+-- (document 01, 'The one-pass rules' and 'Sorted by what stops a check'; 001, section 5.8). It is a machine over an agenda of
+-- questions; a turn is one state of the walk or one replayed step. It knows more than the answer shows: side, number and reason
+-- of a refused step, how many wait, the two bodies, the turns taken.
 -- Assumes nothing.
-use Prim.Native.Nat.{ℕ, zero, suc, _+_, _*_}
-use mathlib.Core.Path.{_≡_}
+use Prim.Native.Nat.{ℕ, zero, suc, _+_, _-_}
 use mathlib.Core.Bool.{Bool, true, false, cond}
 use mathlib.Core.Option.{Option, none, some}
-use mathlib.Core.List.{List, [], _∷_, map}
+use mathlib.Core.List.{List, [], _∷_, _++_}
 use lib.Dec.{eqb}
-use lib.ListN.{length}
-use Rattle.calculus.specs.Terms.{Term, tau, var, app, abs, size, lift}
-use Rattle.calculus.specs.Frames.{Entry, single, pair, domain, Frame, ε, _▹_, entryAt}
-use Rattle.calculus.specs.Types.{degree, type}
+use lib.ListN.{length, drop, getD}
+use Rattle.calculus.specs.Terms.{Term, tau, var, app, abs, size}
+use Rattle.calculus.specs.Frames.{Frame, ε}
+use Rattle.calculus.specs.Types.{type}
 use Rattle.calculus.specs.Steps.{Step, Reason, Outcome, reached, refused, step}
-use Rattle.calculus.specs.Rules.{Group, own, copied, liftAll}
-use Rattle.code.specs.Limits.{longestState}
+use Rattle.calculus.specs.Rules.{Group, State, own, copied, compare, Question, holds, same, Stop, waiting, waiting-copied, unbound, no-rule, Next, asks, stops, onePassNext}
+use Rattle.calculus.specs.Walks.{statesOf}
 use Rattle.verdict.specs.Bounds.{stateFits, bodyFits}
 
--- A waiting applicator of the term's own text: its place, counted in symbols of the term, and its K as it stands now.
-pub record Waiting : Type 0 where
-  pub place : ℕ
-  pub term : Term
+-- THE AGENDA
+-- A question of the rules, with its place in the term, counted in symbols. A state's is where its B begins, or in copied text the
+-- variable of the term's own text that B stems from; beside it stand the places of what waits in W. A comparison's is its applicator.
+pub data Item : Type 0 where
+  state-at : (place : ℕ) (waits : List ℕ) → State → Item
+  same-at : (place : ℕ) (R : Frame) (K U : Term) → Item
 
--- W without the places.
-unfoldable pub terms : List Waiting → List Term
-terms [] = []
-terms (w ∷ W) = w .term ∷ terms W
+-- The last n of a list.
+unfoldable pub last : ℕ → List ℕ → List ℕ
+last n ws = drop (length ws - n) ws
 
--- Passing an abstractor lifts what waits by 1.
-unfoldable pub liftWaiting : List Waiting → List Waiting
-liftWaiting [] = []
-liftWaiting (w ∷ W) = record { place = w .place; term = lift 1 0 (w .term) } ∷ liftWaiting W
+-- The questions that replace a state at `place`, which has ws waiting. The term's own text goes on at `on`, one part after the other.
+-- As many wait as a question's W has: the last of those that waited, and of the applicator at `place`.
+unfoldable pub placed : (place on : ℕ) (waits : List ℕ) → List Question → List Item
+placed place on ws [] = []
+placed place on ws (holds (own R W B) ∷ qs) = state-at on (last (length W) (place ∷ ws)) (own R W B) ∷ placed place (on + size B) ws qs
+placed place on ws (holds (copied R W Y B) ∷ qs) = state-at place (last (length W) ws) (copied R W Y B) ∷ placed place on ws qs
+placed place on ws (same (compare R K U) ∷ qs) = same-at (getD ws 0 0) R K U ∷ placed place on ws qs
 
+-- WHAT STOPS A CHECK, with its place in the term
 pub data Side : Type 0 where
   left-side right-side : Side
 
--- What stops a check, with its place in the term.
 pub data Ground : Type 0 where
   untyped : (place : ℕ) → Ground  -- 7
   something-waits : (place : ℕ) (how-many : ℕ) → Ground  -- 8
@@ -48,12 +52,26 @@ pub data Ground : Type 0 where
   bodies-differ : (place : ℕ) (left right : Term) → Ground  -- 12
   not-reached : (place : ℕ) → Ground  -- never, for a closed term
 
--- How far a check has come: the groups not yet taken, the comparisons completed, and the turns: states met and steps replayed.
+-- No rule applies: 8, at the last of W.
+unfoldable pub groundOf : ℕ → List ℕ → Stop → Ground
+groundOf place ws waiting = something-waits (getD ws 0 0) (length ws)
+groundOf place ws waiting-copied = not-reached place
+groundOf place ws unbound = not-reached place
+groundOf place ws no-rule = not-reached place
+
+-- How far a check has come: the groups of the comparisons not yet completed, the comparisons completed, and the turns taken.
 pub record Progress : Type 0 where
   pub left : List Group
   pub comparisons : ℕ
   pub turns : ℕ
 
+unfoldable pub turned : ℕ → Progress → Progress
+turned n p = record { left = p .left; comparisons = p .comparisons; turns = p .turns + n }
+
+unfoldable pub completed : Progress → Progress
+completed p = record { left = drop 1 (p .left); comparisons = suc (p .comparisons); turns = p .turns }
+
+-- What a check comes to.
 pub data Run : Type 0 where
   passed : Progress → Run
   stopped : Ground → Progress → Run
@@ -62,23 +80,25 @@ unfoldable pub andThen : Run → (Progress → Run) → Run
 andThen (passed p) f = f p
 andThen (stopped g p) f = stopped g p
 
-unfoldable pub turned : ℕ → Progress → Progress
-turned n p = record { left = p .left; comparisons = p .comparisons; turns = p .turns + n }
+-- THE MACHINE
+-- While one side of a comparison is replayed, the other: the right one is next, with its steps, or the left one has reached its form.
+pub data OtherSide : Type 0 where
+  right-next : List Step → Term → OtherSide
+  left-reached : Term → OtherSide
 
--- COMPARISONS
--- A list of steps replayed, from the n-th on: the form reached, or the step that is refused, with its reason, or outgrows.
-pub data Replayed : Type 0 where
-  form : Term → Replayed
-  refused-at : ℕ → Reason → Replayed
-  outgrown-at : ℕ → Replayed
+unfoldable pub sideOf : OtherSide → Side
+sideOf (right-next rs r) = left-side
+sideOf (left-reached l) = right-side
 
-unfoldable pub afterStep : Frame → ℕ → (Term → Replayed) → Outcome → Replayed
-afterStep R n f (refused r) = refused-at n r
-afterStep R n f (reached u) = let x = f u in cond (bodyFits R u) x (outgrown-at n)
+-- What the next turn is for, and the agenda after it: a state; or a step, the n-th of its side, with the steps after it and the body
+-- that it is for, which stands after R.
+pub data Configuration : Type 0 where
+  on-state : (place : ℕ) (waits : List ℕ) → State → List Item → Configuration
+  on-step : (place : ℕ) (R : Frame) → OtherSide → (n : ℕ) → Step → List Step → (body : Term) → List Item → Configuration
 
-unfoldable pub replayFrom : Frame → ℕ → List Step → Term → Replayed
-replayFrom R n [] t = form t
-replayFrom R n (s ∷ ss) t = afterStep R n (replayFrom R (suc n) ss) (step R s t)
+pub data Status : Type 0 where
+  at-turn : Configuration → Progress → Status
+  done : Run → Status
 
 -- The two bodies are one and the same.
 unfoldable pub identical : Term → Term → Bool
@@ -99,95 +119,88 @@ identical (abs L C) (var k) = false
 identical (abs L C) (app K B) = false
 identical (abs L C) (abs U B) = cond (identical L U) (identical C B) false
 
--- One side of a comparison: its steps, each a turn, and then f.
-unfoldable pub oneSide : ℕ → Side → ℕ → Replayed → (Term → Progress → Run) → Progress → Run
-oneSide place side many (form t) f p = f t (turned many p)
-oneSide place side many (refused-at n r) f p = stopped (step-refused place side n r) (turned (suc n) p)
-oneSide place side many (outgrown-at n) f p = stopped (step-outgrown place side n) (turned (suc n) p)
+-- Between two turns: comparisons, but for their steps, and the end. `rest` is the agenda after a comparison, `more` goes on with it.
+-- Both forms are reached: 12.
+unfoldable pub formsMeet : ℕ → Term → Term → (Progress → Status) → Progress → Status
+formsMeet place l r more p = let x = more (completed p) in cond (identical l r) x (done (stopped (bodies-differ place l r) p))
 
-unfoldable pub completed : List Group → Progress → Progress
-completed gs p = record { left = gs; comparisons = suc (p .comparisons); turns = p .turns }
+-- The steps of a side from the n-th on, where t is reached.
+unfoldable pub sideFrom : ℕ → Frame → OtherSide → ℕ → List Step → Term → List Item → (Progress → Status) → Progress → Status
+sideFrom place R o n (s ∷ ss) t rest more p = at-turn (on-step place R o n s ss t rest) p
+sideFrom place R (right-next (s ∷ ss) r) n [] t rest more p = at-turn (on-step place R (left-reached t) 0 s ss r rest) p
+sideFrom place R (right-next [] r) n [] t rest more p = formsMeet place t r more p
+sideFrom place R (left-reached l) n [] t rest more p = formsMeet place l t more p
 
--- With the next group: 11 for the type and then for U, then each side's steps, then 12.
-unfoldable pub compareWith : Frame → ℕ → Term → Term → Group → List Group → Progress → Run
-compareWith R place T U g gs p =
-    let rest = oneSide place left-side (length (g .left)) (replayFrom R 0 (g .left) T) (λ l.
-    oneSide place right-side (length (g .right)) (replayFrom R 0 (g .right) U) (λ r q.
-    cond (identical l r) (passed (completed gs q)) (stopped (bodies-differ place l r) q))) p in
-    let second = cond (bodyFits R U) rest (stopped (domain-outgrown place) p) in
-    cond (bodyFits R T) second (stopped (type-outgrown place) p)
+-- `same(R,K,U)` with the next group: 7, 9, 11 for the type and then for U, and then its steps.
+unfoldable pub withGroup : ℕ → Frame → Term → Term → List Group → List Item → (Progress → Status) → Progress → Status
+withGroup place R T U [] rest more p = done (stopped (no-group place) p)
+withGroup place R T U (g ∷ gs) rest more p =
+    let both = sideFrom place R (right-next (g .right) U) 0 (g .left) T rest more p in
+    let second = cond (bodyFits R U) both (done (stopped (domain-outgrown place) p)) in
+    cond (bodyFits R T) second (done (stopped (type-outgrown place) p))
 
-unfoldable pub withGroup : Frame → ℕ → Term → Term → List Group → Progress → Run
-withGroup R place T U [] p = stopped (no-group place) p
-withGroup R place T U (g ∷ gs) p = compareWith R place T U g gs p
+unfoldable pub withType : ℕ → Frame → Term → Option Term → List Item → (Progress → Status) → Progress → Status
+withType place R U none rest more p = done (stopped (untyped place) p)
+withType place R U (some T) rest more p = withGroup place R T U (p .left) rest more p
 
-unfoldable pub withType : Frame → ℕ → Term → Option Term → Progress → Run
-withType R place U none p = stopped (untyped place) p
-withType R place U (some T) p = withGroup R place T U (p .left) p
+-- The agenda, as far as the next turn.
+unfoldable pub toTurn : List Item → Progress → Status
+toTurn [] p = done (passed p)
+toTurn (state-at place ws s ∷ rest) p = at-turn (on-state place ws s rest) p
+toTurn (same-at place R K U ∷ rest) p = withType place R U (type R K) rest (toTurn rest) p
 
--- `same(R,K,U)` with the next group: 7, 9, 11, 10, 12.
-unfoldable pub compareNext : Frame → Waiting → Term → Progress → Run
-compareNext R w U p = withType R (w .place) U (type R (w .term)) p
+-- A turn for a state: its questions come before what was asked after it.
+unfoldable pub replaced : ℕ → List ℕ → Next → List Item → Progress → Status
+replaced place ws (asks qs) rest p = toTurn (placed place (suc place) ws qs ++ rest) p
+replaced place ws (stops x) rest p = done (stopped (groundOf place ws x) p)
 
--- STATES
--- A state is a turn, and is tested for 11 before its rule.
-unfoldable pub tested : Bool → ℕ → (Progress → Run) → Progress → Run
-tested true place rule p = rule (turned 1 p)
-tested false place rule p = stopped (state-outgrown place) (turned 1 p)
+-- A turn for a step: 10, and then 11.
+unfoldable pub stepped : Frame → (Reason → Ground) → Ground → (Term → Progress → Status) → Outcome → Progress → Status
+stepped R refusal outgrown more (refused why) p = done (stopped (refusal why) p)
+stepped R refusal outgrown more (reached u) p = let x = more u p in cond (bodyFits R u) x (done (stopped outgrown p))
 
--- tau: (i) and (vi).
-unfoldable pub atTau : List Waiting → Progress → Run
-atTau [] p = passed p
-atTau (w ∷ W) p = stopped (something-waits (w .place) (length (w ∷ W))) p
+-- One turn. A state is tested for 11 before its rule.
+unfoldable pub turn : Configuration → Progress → Status
+turn (on-state place ws s rest) p = let x = replaced place ws (onePassNext s) rest p in cond (stateFits s) x (done (stopped (state-outgrown place) p))
+turn (on-step place R o n s ss t rest) p =
+    stepped R (step-refused place (sideOf o) n) (step-outgrown place (sideOf o) n) (λ u. sideFrom place R o (suc n) ss u rest (toTurn rest)) (step R s t) p
 
--- A variable, by what it means in the frame.
-unfoldable pub atVar : ℕ → Option Entry → (Entry → Progress → Run) → Progress → Run
-atVar place none f p = stopped (not-reached place) p
-atVar place (some e) f p = f e p
+-- THE CHECK: turn after turn, each counted, to the end
+unfoldable pub onward : (Status → Run) → Status → Run
+onward more (at-turn c p) = more (turn c (turned 1 p))
+onward more (done x) = x
 
--- The term's own text is B, whose first symbol stands at `place` of the term. Copied text stems from the variable there.
--- The rule of a state of copied text, (vi) and (viii) to (xii); `go` checks the state that it leads to.
-unfoldable pub copiedRule : (Frame → List Waiting → List Term → Term → Progress → Run) → ℕ → Frame → List Waiting → List Term → Term → Progress → Run
--- (vi)
-copiedRule go place R W [] tau p = atTau W p
-copiedRule go place R W (K ∷ Y) tau p = stopped (not-reached place) p
--- (viii)
-copiedRule go place R W Y (var k) p = atVar place (entryAt R k) (λ e. go R W Y (lift k 0 (domain e))) p
--- (ix)
-copiedRule go place R W Y (app K B) p = go R W (K ∷ Y) B p
--- (x)
-copiedRule go place R [] [] (abs U B) p = go (R ▹ single U) [] [] B p
--- (xi)
-copiedRule go place R (w ∷ W) [] (abs U B) p = andThen (compareNext R w U p) (go (R ▹ pair (w .term) U) (liftWaiting W) [] B)
--- (xii)
-copiedRule go place R W (K ∷ Y) (abs U B) p = go (R ▹ pair K U) (liftWaiting W) (liftAll Y) B p
+unfoldable pub run : ℕ → Status → Run
+run zero (at-turn c p) = stopped (not-reached 0) p
+run zero (done x) = x
+run (suc n) a = onward (run n) a
 
--- Typing a variable lowers the degree and else the size falls, so that this many states are enough.
-unfoldable pub enough : Frame → Term → ℕ
-enough R t = degree R t * suc longestState + size t
+-- No more turns than this: the states that the questions lead to, and the steps of the groups.
+unfoldable pub states : List Item → ℕ
+states [] = 0
+states (state-at place ws s ∷ rest) = statesOf s + states rest
+states (same-at place R K U ∷ rest) = states rest
 
-unfoldable pub copiedFrom : ℕ → ℕ → Frame → List Waiting → List Term → Term → Progress → Run
-copiedFrom zero place R W Y B p = stopped (not-reached place) p
-copiedFrom (suc n) place R W Y B p = tested (stateFits (copied R (terms W) Y B)) place (copiedRule (copiedFrom n place) place R W Y B) p
+unfoldable pub steps : List Group → ℕ
+steps [] = 0
+steps (g ∷ gs) = (length (g .left) + length (g .right)) + steps gs
 
-unfoldable pub ownFrom : ℕ → Frame → List Waiting → Term → Progress → Run
--- (i)
-ownFrom place R W tau p = tested (stateFits (own R (terms W) tau)) place (atTau W) p
--- (iii)
-ownFrom place R W (app K B) p = tested (stateFits (own R (terms W) (app K B))) place (λ q.
-    andThen (ownFrom (suc place) R [] K q) (ownFrom (suc place + size K) R (record { place = place; term = K } ∷ W) B)) p
--- (iv)
-ownFrom place R [] (abs U B) p = tested (stateFits (own R [] (abs U B))) place (λ q.
-    andThen (ownFrom (suc place) R [] U q) (ownFrom (suc place + size U) (R ▹ single U) [] B)) p
--- (v)
-ownFrom place R (w ∷ W) (abs U B) p = tested (stateFits (own R (terms (w ∷ W)) (abs U B))) place (λ q.
-    andThen (andThen (ownFrom (suc place) R [] U q) (compareNext R w U)) (ownFrom (suc place + size U) (R ▹ pair (w .term) U) (liftWaiting W) B)) p
--- (vii)
-ownFrom place R W (var k) p = tested (stateFits (own R (terms W) (var k))) place (copiedFrom (enough R (var k)) place R W [] (var k)) p
+-- The check of an agenda.
+unfoldable pub finish : List Item → Progress → Run
+finish items p = run (states items + steps (p .left)) (toTurn items p)
 
--- The check of a term with the groups of its file.
+-- The check of a term with the groups of its file: what is asked, how it begins, and what it comes to.
+abbrev pub asked : Term → List Item
+asked t = state-at 0 [] (own ε [] t) ∷ []
+
+abbrev pub begun : List Group → Progress
+begun gs = record { left = gs; comparisons = 0; turns = 0 }
+
+unfoldable pub start : Term → List Group → Status
+start t gs = toTurn (asked t) (begun gs)
+
 unfoldable pub checkTerm : Term → List Group → Run
-checkTerm t gs = ownFrom 0 ε [] t (record { left = gs; comparisons = 0; turns = 0 })
+checkTerm t gs = finish (asked t) (begun gs)
 
 -- What the answer shows of a ground: its number and its place.
 unfoldable pub number : Ground → ℕ
@@ -200,7 +213,7 @@ number (type-outgrown i) = 11
 number (domain-outgrown i) = 11
 number (step-outgrown i s n) = 11
 number (bodies-differ i l r) = 12
-number (not-reached i) = 0
+number (not-reached i) = 255
 
 unfoldable pub placeOf : Ground → ℕ
 placeOf (untyped i) = i

@@ -1,6 +1,7 @@
 // The bounded check of a term with supplied groups, as a definition on trees, and what it promises. No code: the check of a
-// file is proved equal to it. Each function's contract is a promise of specs/Claims.antt.
-ghost use Rattle.verdict.specs.Claims.{Passing, Stopping};
+// file is proved equal to it. Each function's contract is a promise of specs/Claims.antt or specs/Examples.antt.
+ghost use Rattle.verdict.specs.Claims.{Passing, Stopping, Running, Turning};
+ghost use Rattle.verdict.specs.Examples.{Examples};
 
 pub fn what_passes()
     ensures { λ r. ⌜ Passing ⌝ }
@@ -8,4 +9,16 @@ pub fn what_passes()
 
 pub fn what_stops()
     ensures { λ r. ⌜ Stopping ⌝ }
+{}
+
+pub fn how_it_runs()
+    ensures { λ r. ⌜ Running ⌝ }
+{}
+
+pub fn turn_by_turn()
+    ensures { λ r. ⌜ Turning ⌝ }
+{}
+
+pub fn worked_examples()
+    ensures { λ r. ⌜ Examples ⌝ }
 {}

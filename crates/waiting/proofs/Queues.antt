@@ -18,7 +18,7 @@ use Rattle.code.proofs.Scope.{scope-lift, closed-coded}
 use Rattle.frames.specs.Stored.{Agree}
 use Rattle.frames.proofs.Entries.{agree-part, stands-agree}
 use Rattle.verdict.specs.Bounds.{waitingSize, waitingScope}
-use Rattle.verdict.specs.Verdict.{Waiting, terms, liftWaiting}
+use Rattle.recursion.specs.Recursion.{Waiting, terms, liftWaiting}
 use Rattle.waiting.specs.Waiting.{Part, queueLength, slotOf, Waits, Queue, queue-none, queue-one, within, Figured, Fitted, Written, Writable, Puts, TopAsked, TopPut}
 use Rattle.waiting.specs.declared.Slot.{Slot}
 use Rattle.waiting.specs.declared.Figures.{Figures}

@@ -13,7 +13,7 @@ use Rattle.code.specs.Claims.{Stands}
 use Rattle.code.specs.Scope.{scope}
 use Rattle.frames.specs.Stored.{Agree}
 use Rattle.verdict.specs.Bounds.{waitingSize, waitingScope}
-use Rattle.verdict.specs.Verdict.{Waiting, terms}
+use Rattle.recursion.specs.Recursion.{Waiting, terms}
 use Rattle.waiting.specs.declared.Figures.{Figures}
 use Rattle.waiting.specs.declared.Slot.{Slot}
 use lib.Dec.{leb}

@@ -21,7 +21,8 @@ use Rattle.frames.specs.declared.FrameRecord.{FrameRecord}
 use Rattle.frames.proofs.Entries.{agree-refl, agree-part, agree-trans, stands-agree, bytes-start}
 use Rattle.frames.proofs.Laws.{stored-depth, stored-push, stored-agree}
 use Rattle.verdict.specs.Bounds.{waitingSize, waitingScope}
-use Rattle.verdict.specs.Verdict.{Waiting, terms, liftWaiting, Progress, Run, passed, stopped, andThen, compareNext, ownFrom}
+use Rattle.verdict.specs.Verdict.{Progress, Run, passed, stopped, andThen}
+use Rattle.recursion.specs.Recursion.{Waiting, terms, liftWaiting, compareNext, ownFrom}
 use Rattle.waiting.specs.Waiting.{Part, queueLength, slotOf, Waits, Queue, queue-none, queue-one, SmallSlot, Noted, Figured, Written, Writable, Puts, TopAsked, TopPut}
 use Rattle.copies.specs.State.{Sound, sound-single, sound-pair, Reached, Says, says-stopped, Room}
 use Rattle.walk.specs.State.{OwnAt, Sized}

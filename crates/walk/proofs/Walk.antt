@@ -27,7 +27,8 @@ use Rattle.frames.proofs.Laws.{stored-depth, stored-agree, span-domain}
 use Rattle.indices.specs.Passes.{Standing as Measurable}
 use Rattle.indices.proofs.Walk.{scope-size}
 use Rattle.verdict.specs.Bounds.{waitingSize, waitingScope, stateSize, stateScope, stateFits}
-use Rattle.verdict.specs.Verdict.{Waiting, terms, liftWaiting, number, placeOf, something-waits, state-outgrown, Progress, Run, passed, stopped, andThen, turned, compareNext, tested, atTau, atVar, copiedRule, copiedFrom, enough, ownFrom}
+use Rattle.verdict.specs.Verdict.{number, placeOf, something-waits, state-outgrown, Progress, Run, passed, stopped, andThen, turned}
+use Rattle.recursion.specs.Recursion.{Waiting, terms, liftWaiting, compareNext, tested, atTau, atVar, copiedRule, copiedFrom, enough, ownFrom}
 use Rattle.waiting.specs.Waiting.{Part, queueLength, slotOf, Queue, queue-none, within, Fitted}
 use Rattle.copies.specs.State.{Sound, Reached, Says, says-passed, says-stopped, says-never, copiedNow, Known, exact, fitting, ScopeKnown, CopyAt, Room}
 use Rattle.walk.specs.State.{Sized, OwnAt}

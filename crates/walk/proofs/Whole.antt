@@ -22,8 +22,11 @@ use Rattle.fields.specs.Fields.{GroupAt, Groups}
 use Rattle.frames.specs.Stored.{EmptyRecord}
 use Rattle.frames.specs.declared.FrameRecord.{FrameRecord}
 use Rattle.indices.proofs.Walk.{scope-size}
-use Rattle.verdict.specs.Verdict.{Ground, not-reached, Progress, Run, passed, stopped, checkTerm, ownFrom}
-use Rattle.verdict.proofs.Never.{always-a-number}
+use Rattle.verdict.specs.Verdict.{Ground, not-reached, Progress, Run, passed, stopped, checkTerm}
+use Rattle.recursion.specs.Recursion.{ownFrom}
+use Rattle.recursion.specs.Recursion.{recursive}
+use Rattle.verdict.proofs.Promises.{never-not-reached}
+use Rattle.recursion.proofs.Same.{recurring}
 use Rattle.copies.specs.State.{Sound, sound-empty, Reached, Says, says-passed, says-stopped, says-never}
 use Rattle.waiting.specs.Waiting.{queueLength, Queue, queue-none}
 use Rattle.walk.specs.State.{Sized, OwnAt}
@@ -203,8 +206,11 @@ module _ {file t : List ℕ} {at : ℕ} (g : Walkable file t at) where
     begun = record { frame = ε; ww = []; body = g .term; progress = _; here = begin (g .term) (g .groups) (g .bytes) (g .closed) (g .shallow) (g .stand) }
 
     pub answered : {w′ ws′ ys′ : List ℕ} {r : Walked} → Checks file t w w′ ws ws′ ys ys′ 0 0 0 f at 0 r → WalkAnswer file t at r
-    unfolding checkTerm
-    answered {r = r} k = record { all = λ T gs b c d s. go (checkTerm T (map (λ g. g .group) gs)) (λ i q o. always-a-number T (map (λ g. g .group) gs) i q c o) (k .all ε [] T _ (begin T gs b c d s)) }
+    unfolding recursive
+    answered {r = r} k = record {
+      all = λ T gs b c d s. rw (← recurring .whole T (map (λ g. g .group) gs))
+          (go (recursive T (map (λ g. g .group) gs)) (λ i q o. never-not-reached T (map (λ g. g .group) gs) i q c (sym (recurring .whole T (map (λ g. g .group) gs)) ∙ o)) (k .all ε [] T _ (begin T gs b c d s)));
+    }
       where
         go : (x : Run) → ((i : ℕ) (q : Progress) → x ≡ stopped (not-reached i) q → ⊥) → Says file r x → Answers file r x
         go x n (says-passed a b) = answer-passed (b .groups) a (sym (b .counted)) (b .left) (b .stand)

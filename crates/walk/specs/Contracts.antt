@@ -13,7 +13,8 @@ use Rattle.code.specs.Scope.{scope}
 use Rattle.fields.specs.Fields.{GroupAt, Groups}
 use Rattle.frames.specs.Stored.{Agree}
 use Rattle.frames.specs.declared.FrameRecord.{FrameRecord}
-use Rattle.verdict.specs.Verdict.{Waiting, liftWaiting, Ground, number, placeOf, Progress, Run, passed, stopped, andThen, compareNext, ownFrom, checkTerm}
+use Rattle.verdict.specs.Verdict.{Ground, number, placeOf, Progress, Run, passed, stopped, andThen, checkTerm}
+use Rattle.recursion.specs.Recursion.{Waiting, liftWaiting, compareNext, ownFrom}
 use Rattle.waiting.specs.Waiting.{queueLength, within}
 use Rattle.copies.specs.State.{Says, Room}
 use Rattle.walk.specs.State.{OwnAt}

@@ -11,7 +11,8 @@ use Rattle.code.specs.Claims.{Stands}
 use Rattle.code.specs.Scope.{scope}
 use Rattle.frames.specs.Stored.{Stored}
 use Rattle.frames.specs.declared.FrameRecord.{FrameRecord}
-use Rattle.verdict.specs.Verdict.{Waiting, terms, Progress}
+use Rattle.verdict.specs.Verdict.{Progress}
+use Rattle.recursion.specs.Recursion.{Waiting, terms}
 use Rattle.copies.specs.State.{Sound, Reached}
 use Rattle.waiting.specs.Waiting.{queueLength, Queue}
 

@@ -2,7 +2,7 @@
 -- Assumes nothing.
 use Rattle.fields.proofs.reading.Statement.{statement}
 use Rattle.fields.proofs.reading.Tie as tie
-use Rattle.fields.proofs.Groups.{accepted-only, accepts, if-accepted, if-refused, inside, term-length, room, few, none-left, some-left, no-step, next-step}
+use Rattle.fields.proofs.Groups.{accepted-only, accepts, if-accepted, if-refused, numbers, inside, term-length, room, few, none-left, some-left, no-step, next-step}
 
 returns : tie.Need-returns
 returns c =
@@ -10,6 +10,7 @@ returns c =
       exactly = λ s e gs. (accepted-only s, accepts);
       if-accepted = if-accepted;
       if-refused = if-refused;
+      numbers = numbers;
       inside = inside;
       term-length = term-length;
       room = room;
