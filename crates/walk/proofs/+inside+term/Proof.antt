@@ -5,6 +5,7 @@ use Prim.Native.Nat.{_-_, _+_}
 use borrow.Author.Needs.{needs}
 use Rattle.waiting.proofs.Texts.{text-in}
 use Rattle.copies.proofs.Loop.{is-false, is-true}
+use Rattle.walk.proofs.Falls.{falling, falls-on}
 use Rattle.walk.proofs.Walk.{at-bound, base-bound, checks-outgrown, known-size, inside-stated, inside-stops, pass-ready, pass-stop-checks, next-stated, rest-checks, Goes}
 use Prim.Native.Nat.{ℕ, _<_}
 use Rattle.compare.specs.Sides.{Buffers}
@@ -25,10 +26,10 @@ use Rattle.walk.proofs.+inside+term.{statement}
 use Rattle.walk.proofs.+inside+term.Tie.{close}
 
 abbrev μ-inside : Measures 10 inside-kinds.ps ℕ
-μ-inside κs a = (4096 - a .1 .1 .1 .1 .1 .1 .1 .1 .1 .1 .1 .0) + (4096 - a .1 .1 .1 .1 .1 .1 .1 .1 .1 .1 .1 .0) + 1
+μ-inside κs a = falling (a .1 .1 .0 .now) (a .1 .1 .1 .1 .1 .1 .1 .1 .1 .1 .1 .0) + falling (a .1 .1 .0 .now) (a .1 .1 .1 .1 .1 .1 .1 .1 .1 .1 .1 .0) + 1
 
 abbrev μ-term : Measures 10 term-kinds.ps ℕ
-μ-term κs a = (4096 - a .1 .1 .1 .1 .1 .1 .1 .1 .1 .1 .1 .1 .0) + (4096 - a .1 .1 .1 .1 .1 .1 .1 .1 .1 .1 .1 .1 .0)
+μ-term κs a = falling (a .1 .1 .0 .now) (a .1 .1 .1 .1 .1 .1 .1 .1 .1 .1 .1 .1 .0) + falling (a .1 .1 .0 .now) (a .1 .1 .1 .1 .1 .1 .1 .1 .1 .1 .1 .1 .0)
 
 abbrev inside-at : ℕ → In 10 inside-kinds.ps
 inside-at t = and 10 inside-kinds.ps (is 10 inside-kinds.ps μ-inside t) inside.Pre
@@ -214,7 +215,7 @@ term-inside-requires : (t : ℕ) → term-lts.Need-inside-requires (
   last-reads.Asked,
   last-reads.Learnt,
 ) (term-at t) term.Post term-Inv-loop term-μ-loop
-term-inside-requires t c κs = (omega (arith, at-bound (c .before .before .before .before .before .before .before .before .before .before .before .before .before .loop .inv .0 .now), c .before .before .before .before .before .before .before .before .before .before .before .before .before .loop .inv .0 .later), (c .before .before .before .before .before .before .before .before .before .before .before .before .before .before .before .before .pre .1 .0, c .before .before .before .before .before .before .before .before .before .before .before .before .before .before .before .before .pre .1 .1, inside-stated (c .before .before .before .before .before .before .before .before .before .before .before .if1 .taken) (c .before .before .before .before .before .before .before .before .before .before .before .before .before .loop .inv .0 .now), c .before .before .before .before .before .before .before .before .before .before .before .before .before .loop .inv .1))
+term-inside-requires t c κs = (omega (arith, falls-on (c .before .before .before .before .before .before .before .before .before .before .before .before .before .before .before .before .args .t .now) _ _ (c .before .before .before .before .before .before .before .before .before .before .before .before .before .loop .inv .0 .later) (text-in (c .before .before .before .before .before .before .before .before .before .before .before .before .before .before .before .before .pre .1 .2 .here .stands)), c .before .before .before .before .before .before .before .before .before .before .before .before .before .before .before .before .pre .0), (c .before .before .before .before .before .before .before .before .before .before .before .before .before .before .before .before .pre .1 .0, c .before .before .before .before .before .before .before .before .before .before .before .before .before .before .before .before .pre .1 .1, inside-stated (c .before .before .before .before .before .before .before .before .before .before .before .if1 .taken) (c .before .before .before .before .before .before .before .before .before .before .before .before .before .loop .inv .0 .now), c .before .before .before .before .before .before .before .before .before .before .before .before .before .loop .inv .1))
 
 term-returns-2 : (t : ℕ) → term-lts.Need-returns-2 (
   wide16-reads.Asked,
