@@ -25,12 +25,20 @@ use Rattle.verdict.proofs.Promises.{passing}
 use Rattle.files.specs.File.{Opened, refused, opened, openTerm, openFields, openFile}
 use Rattle.files.specs.Check as files
 use Rattle.files.specs.Check.{groupsOf, leftOver, answerOf, checkOpened, checkFile}
-use Rattle.files.proofs.Answers.{term-bytes}
+use Rattle.files.proofs.Answers.{term-bytes, says as answer-says}
 use Rattle.walk.specs.Contracts.{Answers, answer-passed, answer-stopped, Walkable, WalkAnswer}
-use Rattle.checker.specs.Answer.{CheckedAs}
+use Rattle.checker.specs.Answer.{CheckedAs, Checked}
 use Rattle.checker.specs.declared.CheckAnswer.{CheckAnswer}
 use Rattle.copies.specs.declared.Walked.{Walked}
 use Rattle.checker.proofs.Left.{same-left, groups-drop, drop-groups}
+
+-- what the four numbers of the definition mean
+pub checked : {s : List ℕ} {r : CheckAnswer} → Bytes s → CheckedAs r (checkFile s) → Checked s r
+checked {s} b a = record {
+  answer = a;
+  acceptance = λ z. rw (a .comparisons-is, a .degree-is) (answer-says s b .0 (sym (a .number-is) ∙ z));
+  refusal = λ n. rw (a .number-is, a .comparisons-is, a .degree-is) (answer-says s b .1 (λ z. n (a .number-is ∙ z)));
+}
 
 -- an opened file's answer
 from-opened : {r : CheckAnswer} (s : List ℕ) {o : Opened} → openFile s ≡ o → CheckedAs r (checkOpened o) → CheckedAs r (checkFile s)

@@ -1,7 +1,6 @@
 // Check a file: the fifth call.
 ghost use mathlib.Core.Path.{_≡_};
-ghost use Rattle.files.specs.Check.{checkFile};
-ghost use Rattle.checker.specs.Answer.{CheckedAs};
+ghost use Rattle.checker.specs.Answer.{Checked};
 use walk::walk_term;
 
 // Number (0 if accepted), place, comparisons completed, degree.
@@ -25,7 +24,7 @@ fn refusal(number: u32, place: usize) -> CheckAnswer
 
 // Checks a file.
 pub fn check(s: &[u8]) -> CheckAnswer
-    ensures { λ r. ⌜ CheckedAs r (checkFile (now (s .entry))) ⌝ }
+    ensures { λ r. ⌜ Checked (now (s .entry)) r ⌝ }
 {
     let fields = fields::read_fields(s);
     let code = fields.number;

@@ -3,7 +3,6 @@
 use Prim.Native.Nat.{ℕ, zero, suc, _+_, _-_, _≤_, _<_}
 use mathlib.Core.Path.{_≡_, refl, ap, sym, _∙_}
 use mathlib.Core.Bool.{true}
-use mathlib.Core.Logic.{_⊎_, inl, inr}
 use mathlib.Core.Option.{Option, none, some}
 use mathlib.Core.List.{List, [], _∷_, _++_, append-nil}
 use native.Mathlib.Nat.{zero-add}
@@ -25,14 +24,14 @@ use Rattle.calculus.proofs.Promises.{demanding}
 use Rattle.code.specs.Limits.{longestFile, longestTerm, longestState, mostAbstractors}
 use Rattle.code.specs.Code.{Bytes, encode}
 use Rattle.code.specs.Scope.{scope}
-use Rattle.code.proofs.RoundTrip.{decode-encode, encode-bytes, bytes-drop}
+use Rattle.code.proofs.RoundTrip.{decode-encode, encode-decode, encode-bytes, bytes-drop}
 use Rattle.code.proofs.Scope.{closed-coded}
 use Rattle.fields.specs.Fields.{GroupAt, Fields, readFile, termBytes}
 use Rattle.fields.specs.Fields as fields
 use Rattle.fields.specs.Files.{writeFile, StepsFit, GroupsFit, placed}
 use Rattle.fields.specs.Files as files
 use Rattle.fields.proofs.Groups.{numbers as fields-numbers}
-use Rattle.fields.proofs.Written.{read-back, same-term, same-groups, in-bytes}
+use Rattle.fields.proofs.Written.{read-back, same-term, same-groups, in-bytes, only-written}
 use Rattle.examine.specs.Inspect.{Examined, examined, termAnswer}
 use Rattle.examine.specs.Inspect as term
 use Rattle.examine.proofs.Laws.{examining-holds}
@@ -43,7 +42,7 @@ use Rattle.verdict.proofs.Runs.{cond-both}
 use Rattle.verdict.proofs.Promises.{passing, stopping}
 use Rattle.files.specs.File.{Opened, refused, opened, openTerm, openFields, openFile}
 use Rattle.files.specs.Check.{CheckAnswer, groupsOf, leftOver, answerOf, checkOpened, checkFile}
-use Rattle.files.specs.Claims.{Accepted, WithinLimits, Accepting, Refusing}
+use Rattle.files.specs.Claims.{Accepted, Refused, before-the-walk, later, WithinLimits, Accepting, Refusing}
 
 -- WHAT OPENS
 opened-inj-term : {t u : Term} {e f : ℕ} {gs hs : List GroupAt} → opened t e gs ≡ opened u f hs → (t ≡ u) × (e ≡ f) × (gs ≡ hs)
@@ -103,11 +102,9 @@ before-numbers s {n} {p} q = go (readFile s) refl q
     go (fields.refused m r) h q = omega (arith, refused-inj q, fields-numbers s h)
     go (fields.accepted e gs) h q = in-term e gs (examined (termBytes s e)) refl q
 
--- ACCEPTED
-left-none : (n d : ℕ) (gs : List GroupAt) → leftOver n d gs .number ≡ 0 → gs ≡ []
-unfolding leftOver
-left-none n d [] h = refl
-left-none n d (g ∷ gs) h = let z : ⊥ = omega arith in absurd z
+-- WHAT AN ANSWER SAYS
+abbrev Says : List ℕ → CheckAnswer → Type 0
+Says s a = (a .number ≡ 0 → Accepted s (a .comparisons) (a .degree)) × ((a .number ≡ 0 → ⊥) → Refused s (a .number) (a .comparisons) (a .degree))
 
 drop-none : {A : Type 0} (n : ℕ) (l : List A) → drop n l ≡ [] → length l ≤ n
 drop-none n l h = omega (arith, length-drop n l, ap length h)
@@ -116,51 +113,58 @@ no-length : {A : Type 0} (l : List A) → length l ≡ 0 → l ≡ []
 no-length [] h = refl
 no-length (x ∷ l) h = let z : ⊥ = omega arith in absurd z
 
--- a run that passes with no group left took them all
-module _ (s : List ℕ) (t : Term) (e : ℕ) (gs : List GroupAt) (o : openFile s ≡ opened t e gs) (c : Closed 0 t) where
-  check-is : (x : Run) → checkTerm t (groupsOf gs) ≡ x → checkFile s ≡ answerOf (degree ε t) gs x
-  unfolding checkFile checkOpened
-  check-is x h = ap checkOpened o ∙ ap (answerOf (degree ε t) gs) h
+-- of a file that opens
+module _ (s : List ℕ) (t : Term) (e : ℕ) (gs : List GroupAt) (o : Opens s t e gs) (b : Bytes s) where
+  closed : Closed 0 t
+  closed = opens-closed b o
 
-  accepted-run : (q : Progress) → checkTerm t (groupsOf gs) ≡ passed q → checkFile s .number ≡ 0 → Accepted s t gs
-  unfolding answerOf leftOver
-  accepted-run q h z =
+  holds-just : s ≡ writeFile (encode t) (groupsOf gs)
+  holds-just =
+      let d = examining-holds .accepts (termBytes s e) t (term-bytes s e b) .0 (o .term-is) .decodes in
+      only-written (record { small = b }) (o .fields-are) ∙ ap (λ (l : List ℕ). writeFile l (groupsOf gs)) (sym (encode-decode (termBytes s e) t (term-bytes s e b) d .bytes))
+
+  -- a run that passes with no group left took them all
+  taken : (q : Progress) → checkTerm t (groupsOf gs) ≡ passed q → drop (q .comparisons) gs ≡ [] → Accepted s (q .comparisons) (degree ε t)
+  taken q h n =
       let r = passing .sound t (groupsOf gs) q h in
-      let k = check-is (passed q) h in
-      let none-left = left-none (q .comparisons) (degree ε t) (drop (q .comparisons) gs) (sym (ap (λ (a : CheckAnswer). a .number) k) ∙ z) in
-      let all = drop-none (q .comparisons) gs none-left in
+      let all = drop-none (q .comparisons) gs n in
       let many : length (groupsOf gs) ≡ length (groups (r .0)) + length (q .left) = ap length (r .2) ∙ length-append (groups (r .0)) (q .left) in
       let empty = no-length (q .left) (omega (arith, many, r .3, length-map gs (λ (g : GroupAt). g .group))) in
       let apps = stopping .all-applicators t (groupsOf gs) q h in
       record {
-        closed = c;
+        term = t;
+        steps = groupsOf gs;
+        file = holds-just;
+        closed = closed;
         one-pass = r .0;
         own-steps = sym (r .2 ∙ ap (λ (l : List Group). groups (r .0) ++ l) empty ∙ append-nil (groups (r .0)));
         plain = plain-of-one-pass ε [] t correct-empty (r .0);
-        comparisons = ap (λ (a : CheckAnswer). a .comparisons) (k ∙ ap (leftOver (q .comparisons) (degree ε t)) none-left) ∙ apps;
-        groups-too = omega (arith, many, r .3, length-map gs (λ (g : GroupAt). g .group), apps, ap length empty);
+        all-compared = apps;
+        group-each = omega (arith, many, r .3, apps, ap length empty);
         plain-met = demanding .plain-met t (r .0);
-        degree-is = ap (λ (a : CheckAnswer). a .degree) (k ∙ ap (leftOver (q .comparisons) (degree ε t)) none-left);
+        degree-is = refl;
       }
 
-stopped-answer : (d : ℕ) (gs : List GroupAt) (g : Ground) (q : Progress) → answerOf d gs (stopped g q) .number ≡ number g
-unfolding answerOf
-stopped-answer d gs g q = refl
+  run-says : (x : Run) → checkTerm t (groupsOf gs) ≡ x → Says s (answerOf (degree ε t) gs x)
+  unfolding answerOf leftOver progressOf
+  run-says x h = go x h (rw h at (stopping .at-most-applicators t (groupsOf gs)), rw h at (stopping .at-most-groups t (groupsOf gs)))
+    where
+      left : (q : Progress) → checkTerm t (groupsOf gs) ≡ passed q → (q .comparisons ≤ applicators t) × (q .comparisons ≤ length (groupsOf gs)) → (hs : List GroupAt) → drop (q .comparisons) gs ≡ hs
+          → Says s (leftOver (q .comparisons) (degree ε t) hs)
+      left q h m [] e = (λ z. taken q h e, λ n. absurd (n refl))
+      left q h m (g ∷ hs) e = (λ z. absurd (omega arith), λ n. later t (groupsOf gs) holds-just closed (omega arith) (omega arith) (m .0) (m .1) refl)
 
-only : (s : List ℕ) → Bytes s → checkFile s .number ≡ 0 → (t : Term) × (e : ℕ) × (gs : List GroupAt) × (openFile s ≡ opened t e gs) × Accepted s t gs
+      go : (x : Run) → checkTerm t (groupsOf gs) ≡ x → (progressOf x .comparisons ≤ applicators t) × (progressOf x .comparisons ≤ length (groupsOf gs)) → Says s (answerOf (degree ε t) gs x)
+      go (passed q) h m = left q h m (drop (q .comparisons) gs) refl
+      go (stopped g q) h m = let n = stopping .numbers t (groupsOf gs) g q closed h in (λ z. absurd (omega arith), λ k. later t (groupsOf gs) holds-just closed (n .0) (omega arith) (m .0) (m .1) refl)
+
+pub says : (s : List ℕ) → Bytes s → Says s (checkFile s)
 unfolding checkFile checkOpened
-only s b z = go (openFile s) refl
+says s b = go (openFile s) refl
   where
-    run : (t : Term) (e : ℕ) (gs : List GroupAt) → openFile s ≡ opened t e gs → Closed 0 t → (x : Run) → checkTerm t (groupsOf gs) ≡ x → Accepted s t gs
-    run t e gs o c (passed q) h = accepted-run s t e gs o c q h z
-    run t e gs o c (stopped g q) h =
-        let n = stopping .numbers t (groupsOf gs) g q c h in
-        let k = sym (ap (λ (a : CheckAnswer). a .number) (check-is s t e gs o c (stopped g q) h)) ∙ z in
-        let y : ⊥ = omega (arith, n .0, k, stopped-answer (degree ε t) gs g q) in absurd y
-
-    go : (o : Opened) → openFile s ≡ o → (t : Term) × (e : ℕ) × (gs : List GroupAt) × (openFile s ≡ opened t e gs) × Accepted s t gs
-    go (refused n p) h = absurd (omega (arith, before-numbers s h, sym (ap (λ (o : Opened). checkOpened o .number) h) ∙ z))
-    go (opened t e gs) h = (t, e, gs, h, run t e gs h (opens-closed b (opens s t e gs h)) (checkTerm t (groupsOf gs)) refl)
+    go : (o : Opened) → openFile s ≡ o → Says s (checkOpened o)
+    go (refused n p) h = let m = before-numbers s h in (λ z. absurd (omega arith), λ k. before-the-walk (m .0) (m .1) refl refl)
+    go (opened t e gs) h = run-says s t e gs (opens s t e gs h) b (checkTerm t (groupsOf gs)) refl
 
 -- EVERY CORRECT TERM, within the limits, has an accepted file
 start-scope : (t : Term) → Fits (own ε [] t) → scope t ≤ mostAbstractors
@@ -194,7 +198,7 @@ all-answer n m d gs h q = ap (leftOver n d) (drop-of-length-le gs h) ∙ ap (λ 
 
 accepted-file : (t : Term) (d : OnePass (own ε [] t)) → WithinLimits t d
     → checkFile (writeFile (encode t) (groups d)) ≡ record { number = 0; place = 0; comparisons = applicators t; degree = degree ε t }
-unfolding answerOf
+unfolding checkFile checkOpened answerOf
 accepted-file t d w =
     let e = 3 + length (encode t) in
     let gs = placed e (groups d) in
@@ -202,7 +206,8 @@ accepted-file t d w =
     let same : groupsOf gs ≡ groups d = same-groups e (groups d) in
     let h : checkTerm t (groupsOf gs) ≡ passed (r .0) = ap (checkTerm t) (same ∙ sym (append-nil (groups d))) ∙ r .1 in
     let many = length-map gs (λ (g : GroupAt). g .group) in
-    check-is (writeFile (encode t) (groups d)) t e gs (written-opens t d (w .states-and-forms .first) (w .term) (w .file)) (start-closed t d) (passed (r .0)) h
+    ap checkOpened (written-opens t d (w .states-and-forms .first) (w .term) (w .file))
+    ∙ ap (answerOf (degree ε t) gs) h
     ∙ all-answer (r .0 .comparisons) (applicators t) (degree ε t) gs (omega (arith, r .3, many, ap length same)) (r .3 ∙ length-groups ε [] t d ∙ zero-add (applicators t))
 
 -- a step that is not refused has one of the known kinds, and its place is in the body
@@ -254,56 +259,7 @@ all t d w =
     (in-bytes (encode t) (groups d) (w .file) (record { small = encode-bytes k }) (groups-fit d (w .states-and-forms .others)) .small, accepted-file t d w)
 
 pub accepting : Accepting
-accepting = record { only = only; all = all }
-
--- REFUSED
-before : (s : List ℕ) {n p : ℕ} → openFile s ≡ refused n p → checkFile s ≡ record { number = n; place = p; comparisons = 0; degree = 0 }
-unfolding checkFile checkOpened
-before s h = ap checkOpened h
-
-left-number : (n d : ℕ) (gs : List GroupAt) → (leftOver n d gs .number ≡ 0) ⊎ (leftOver n d gs .number ≡ 13)
-unfolding leftOver
-left-number n d [] = inl refl
-left-number n d (g ∷ gs) = inr refl
-
-left-comparisons : (n d : ℕ) (gs : List GroupAt) → (leftOver n d gs .comparisons ≡ n) × (leftOver n d gs .degree ≡ d)
-unfolding leftOver
-left-comparisons n d [] = (refl, refl)
-left-comparisons n d (g ∷ gs) = (refl, refl)
-
-numbers : (s : List ℕ) {t : Term} {e : ℕ} {gs : List GroupAt} → Bytes s → openFile s ≡ opened t e gs
-    → (checkFile s .number ≡ 0 → ⊥) → (7 ≤ checkFile s .number) × (checkFile s .number ≤ 13)
-unfolding answerOf
-numbers s {t} {e} {gs} b o z = go (checkTerm t (groupsOf gs)) refl
-  where
-    c : Closed 0 t
-    c = opens-closed b (opens s t e gs o)
-
-    go : (x : Run) → checkTerm t (groupsOf gs) ≡ x → (7 ≤ checkFile s .number) × (checkFile s .number ≤ 13)
-    go (stopped g q) h = let n = stopping .numbers t (groupsOf gs) g q c h in rw (check-is s t e gs o c (stopped g q) h) (n .0, omega (arith, n .1))
-    go (passed q) h =
-        let k = ap (λ (a : CheckAnswer). a .number) (check-is s t e gs o c (passed q) h) in
-        elim (left-number (q .comparisons) (degree ε t) (drop (q .comparisons) gs)) [
-          | inl y ↦ absurd (z (k ∙ y))
-          | inr y ↦ (omega (arith, k, y), omega (arith, k, y))
-        ]
-
-run-answer : (d : ℕ) (gs : List GroupAt) (x : Run) → (answerOf d gs x .comparisons ≡ progressOf x .comparisons) × (answerOf d gs x .degree ≡ d)
-unfolding answerOf progressOf
-run-answer d gs (passed q) = left-comparisons (q .comparisons) d (drop (q .comparisons) gs)
-run-answer d gs (stopped g q) = (refl, refl)
-
-check-run : (s : List ℕ) {t : Term} {e : ℕ} {gs : List GroupAt} → openFile s ≡ opened t e gs → checkFile s ≡ answerOf (degree ε t) gs (checkTerm t (groupsOf gs))
-unfolding checkFile checkOpened
-check-run s o = ap checkOpened o
-
-at-most : (s : List ℕ) {t : Term} {e : ℕ} {gs : List GroupAt} → openFile s ≡ opened t e gs → (checkFile s .comparisons ≤ applicators t) × (checkFile s .comparisons ≤ length gs)
-at-most s {t} {e} {gs} o =
-    let k = ap (λ (a : CheckAnswer). a .comparisons) (check-run s o) ∙ run-answer (degree ε t) gs (checkTerm t (groupsOf gs)) .0 in
-    (omega (arith, k, stopping .at-most-applicators t (groupsOf gs)), omega (arith, k, stopping .at-most-groups t (groupsOf gs), length-map gs (λ (g : GroupAt). g .group)))
-
-degrees : (s : List ℕ) {t : Term} {e : ℕ} {gs : List GroupAt} → openFile s ≡ opened t e gs → checkFile s .degree ≡ degree ε t
-degrees s {t} {e} {gs} o = ap (λ (a : CheckAnswer). a .degree) (check-run s o) ∙ run-answer (degree ε t) gs (checkTerm t (groupsOf gs)) .1
+accepting = record { only = λ s b. says s b .0; all = all }
 
 pub refusing : Refusing
-refusing = record { before = before; before-numbers = before-numbers; numbers = numbers; at-most = at-most; degrees = degrees }
+refusing = record { otherwise = λ s b. says s b .1 }

@@ -5,7 +5,7 @@ use native.Mathlib.Omega.{arith}
 use borrow.Author.Needs.{needs}
 use Rattle.examine.specs.Inspect.{termAnswer}
 use Rattle.fields.proofs.Groups.{inside}
-use Rattle.checker.proofs.Checking.{fields-refused, term-refused, walking, walk-stopped, groups-left, all-taken}
+use Rattle.checker.proofs.Checking.{checked, fields-refused, term-refused, walking, walk-stopped, groups-left, all-taken}
 use Rattle.checker.proofs.check.Statement.{statement}
 use Rattle.checker.proofs.check.Tie as tie
 use Rattle.checker.proofs.check.Reads as reads
@@ -30,7 +30,7 @@ refusal-requires c κs = search needs
 
 -- src/lib.rt:42:9
 returns : tie.Need-returns
-returns c = rw (c .refusal .ensures) (fields-refused _ (c .before .before .read-fields .ensures) (c .before .if1 .taken))
+returns c = checked (λ i. omega (arith, c .before .before .before .shared-slice-known .given i)) (rw (c .refusal .ensures) (fields-refused _ (c .before .before .read-fields .ensures) (c .before .if1 .taken)))
 
 -- src/lib.rt:45:9
 term-part-requires : tie.Need-term-part-requires
@@ -46,7 +46,7 @@ refusal-requires-2 c κs = search needs
 
 -- src/lib.rt:49:9
 returns-2 : tie.Need-returns-2
-returns-2 c = rw (c .refusal2 .ensures) (term-refused _ (c .before .before .before .before .before .before .read-fields .ensures) (c .before .before .before .before .before .if1 .left) (λ i. omega (arith, c .before .before .before .before .before .before .before .shared-slice-known .given i)) (c .before .before .before .examine-term .ensures ∙ ap termAnswer (c .before .before .before .before .term-part .ensures)) (c .before .if2 .taken))
+returns-2 c = checked (λ i. omega (arith, c .before .before .before .before .before .before .before .shared-slice-known .given i)) (rw (c .refusal2 .ensures) (term-refused _ (c .before .before .before .before .before .before .read-fields .ensures) (c .before .before .before .before .before .if1 .left) (λ i. omega (arith, c .before .before .before .before .before .before .before .shared-slice-known .given i)) (c .before .before .before .examine-term .ensures ∙ ap termAnswer (c .before .before .before .before .term-part .ensures)) (c .before .if2 .taken)))
 
 -- src/lib.rt:51:9
 walk-term-requires : tie.Need-walk-term-requires
@@ -54,15 +54,15 @@ walk-term-requires c κs = rw (c .before .before .before .term-part .ensures) (w
 
 -- src/lib.rt:54:9
 returns-3 : tie.Need-returns-3
-returns-3 c = walk-stopped _ (c .before .before .before .before .before .before .before .before .read-fields .ensures) (c .before .before .before .before .before .before .before .if1 .left) (λ i. omega (arith, c .before .before .before .before .before .before .before .before .before .shared-slice-known .given i)) (c .before .before .before .before .before .examine-term .ensures ∙ ap termAnswer (c .before .before .before .before .before .before .term-part .ensures)) (c .before .before .before .if2 .left) (rw (c .before .before .before .before .before .before .term-part .ensures) at (c .before .before .walk-term .ensures)) (c .if3 .taken)
+returns-3 c = checked (λ i. omega (arith, c .before .before .before .before .before .before .before .before .before .shared-slice-known .given i)) (walk-stopped _ (c .before .before .before .before .before .before .before .before .read-fields .ensures) (c .before .before .before .before .before .before .before .if1 .left) (λ i. omega (arith, c .before .before .before .before .before .before .before .before .before .shared-slice-known .given i)) (c .before .before .before .before .before .examine-term .ensures ∙ ap termAnswer (c .before .before .before .before .before .before .term-part .ensures)) (c .before .before .before .if2 .left) (rw (c .before .before .before .before .before .before .term-part .ensures) at (c .before .before .walk-term .ensures)) (c .if3 .taken))
 
 -- src/lib.rt:58:9
 returns-4 : tie.Need-returns-4
-returns-4 c = groups-left _ (c .before .before .before .before .before .before .before .before .before .read-fields .ensures) (c .before .before .before .before .before .before .before .before .if1 .left) (λ i. omega (arith, c .before .before .before .before .before .before .before .before .before .before .shared-slice-known .given i)) (c .before .before .before .before .before .before .examine-term .ensures ∙ ap termAnswer (c .before .before .before .before .before .before .before .term-part .ensures)) (c .before .before .before .before .if2 .left) (rw (c .before .before .before .before .before .before .before .term-part .ensures) at (c .before .before .before .walk-term .ensures)) (c .before .if3 .left) (c .if4 .taken)
+returns-4 c = checked (λ i. omega (arith, c .before .before .before .before .before .before .before .before .before .before .shared-slice-known .given i)) (groups-left _ (c .before .before .before .before .before .before .before .before .before .read-fields .ensures) (c .before .before .before .before .before .before .before .before .if1 .left) (λ i. omega (arith, c .before .before .before .before .before .before .before .before .before .before .shared-slice-known .given i)) (c .before .before .before .before .before .before .examine-term .ensures ∙ ap termAnswer (c .before .before .before .before .before .before .before .term-part .ensures)) (c .before .before .before .before .if2 .left) (rw (c .before .before .before .before .before .before .before .term-part .ensures) at (c .before .before .before .walk-term .ensures)) (c .before .if3 .left) (c .if4 .taken))
 
 -- src/lib.rt:36:1
 returns-5 : tie.Need-returns-5
-returns-5 c = all-taken _ (c .before .before .before .before .before .before .before .before .before .read-fields .ensures) (c .before .before .before .before .before .before .before .before .if1 .left) (λ i. omega (arith, c .before .before .before .before .before .before .before .before .before .before .shared-slice-known .given i)) (c .before .before .before .before .before .before .examine-term .ensures ∙ ap termAnswer (c .before .before .before .before .before .before .before .term-part .ensures)) (c .before .before .before .before .if2 .left) (rw (c .before .before .before .before .before .before .before .term-part .ensures) at (c .before .before .before .walk-term .ensures)) (c .before .if3 .left) (c .if4 .left)
+returns-5 c = checked (λ i. omega (arith, c .before .before .before .before .before .before .before .before .before .before .shared-slice-known .given i)) (all-taken _ (c .before .before .before .before .before .before .before .before .before .read-fields .ensures) (c .before .before .before .before .before .before .before .before .if1 .left) (λ i. omega (arith, c .before .before .before .before .before .before .before .before .before .before .shared-slice-known .given i)) (c .before .before .before .before .before .before .examine-term .ensures ∙ ap termAnswer (c .before .before .before .before .before .before .before .term-part .ensures)) (c .before .before .before .before .if2 .left) (rw (c .before .before .before .before .before .before .before .term-part .ensures) at (c .before .before .before .walk-term .ensures)) (c .before .if3 .left) (c .if4 .left))
 
 pub check-spec : {M : Type 1} → statement M
 check-spec =
