@@ -3,4 +3,3 @@
 pub mod Opening
 pub mod Writing
 pub mod Promised
-pub mod Worked

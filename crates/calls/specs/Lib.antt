@@ -1,5 +1,4 @@
--- The definitions, promises and examples of this crate.
+-- The definitions and promises of this crate.
 -- Assumes nothing.
 pub mod Answers
 pub mod Claims
-pub mod Examples

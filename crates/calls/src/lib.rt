@@ -3,7 +3,6 @@ ghost use mathlib.Core.Path.{_≡_};
 ghost use Rattle.files.specs.File.{fileAnswer};
 ghost use Rattle.calls.specs.Answers.{FileAnswered, handed, typeAnswer, typeSays, stepAnswer, stepSays, AcceptedTerm, Opened};
 ghost use Rattle.calls.specs.Claims.{Promises};
-ghost use Rattle.calls.specs.Examples.{Examples};
 ghost use Prim.Native.Nat.{_≤_};
 ghost use lib.ListN.{length, take};
 
@@ -145,8 +144,4 @@ pub fn apply_step(s: &[u8], kind: u8, place: u16, out: &mut [u8]) -> StepAnswer
 
 pub fn promises()
     ensures { λ r. ⌜ Promises ⌝ }
-{}
-
-pub fn examples()
-    ensures { λ r. ⌜ Examples ⌝ }
 {}

@@ -1,0 +1,3 @@
+-- The examples.
+-- Assumes nothing.
+pub mod Table

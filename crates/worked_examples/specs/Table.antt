@@ -1,0 +1,118 @@
+-- Document 01, 'Examples to carry in the proofs': E1 with its degree and its type, E2 to E9, and example 11; and some more of the
+-- type and the step, with the buffer that is left: aa is a byte that was there before.
+-- Assumes nothing.
+use Prim.Native.Nat.{ℕ, zero, suc}
+use mathlib.Core.Path.{_≡_}
+use mathlib.Core.List.{List, [], _∷_, _++_, map}
+use Rattle.examine.specs.Inspect.{termAnswer}
+use Rattle.examine.specs.declared.TermAnswer.{TermAnswer}
+use Rattle.files.specs.Check.{CheckAnswer, checkFile}
+use Rattle.calls.specs.Answers.{Written, nothing, answer, typeAnswer, stepAnswer}
+
+-- A call with what it is given: a term; a file; a term and a buffer; a term, a step's kind and place, and a buffer.
+pub data Call : Type 0 where
+  examine-term check-file : List ℕ → Call
+  write-type : List ℕ → List ℕ → Call
+  apply-step : List ℕ → (kind place : ℕ) → List ℕ → Call
+
+-- Its answer: number, place and degree; number, place, comparisons and degree; 'none', or number, place, length, and the buffer.
+pub data Answer : Type 0 where
+  of-term : TermAnswer → Answer
+  of-file : CheckAnswer → Answer
+  of-buffer : Written → Answer
+
+abbrev pub answerTo : Call → Answer
+answerTo (examine-term s) = of-term (termAnswer s)
+answerTo (check-file s) = of-file (checkFile s)
+answerTo (write-type s out) = of-buffer (typeAnswer s out)
+answerTo (apply-step s kind place out) = of-buffer (stepAnswer s (record { kind = kind; place = place }) out)
+
+pub record Example : Type 0 where
+  pub call : Call
+  pub gives : Answer
+
+abbrev pub examined : List ℕ → (number place degree : ℕ) → Example
+examined s n p d = record { call = examine-term s; gives = of-term (record { number = n; place = p; degree = d }) }
+
+abbrev pub checked : List ℕ → (number place comparisons degree : ℕ) → Example
+checked s n p c d = record { call = check-file s; gives = of-file (record { number = n; place = p; comparisons = c; degree = d }) }
+
+abbrev pub typed : (s out : List ℕ) → Written → Example
+typed s out w = record { call = write-type s out; gives = of-buffer w }
+
+abbrev pub stepped : List ℕ → (kind place : ℕ) → List ℕ → Written → Example
+stepped s k p out w = record { call = apply-step s k p out; gives = of-buffer w }
+
+-- A file: a term of so many bytes, below 256, and then its groups.
+abbrev pub file : ℕ → List ℕ → List ℕ → List ℕ
+file n t gs = 0x01 ∷ 0x00 ∷ n ∷ (t ++ gs)
+
+-- An empty group, and one with the right step 01 00 00.
+abbrev pub group : List ℕ
+group = 0x02 ∷ 0x00 ∷ 0x00 ∷ 0x03 ∷ 0x00 ∷ 0x00 ∷ []
+
+abbrev pub right-step : List ℕ
+right-step = 0x02 ∷ 0x00 ∷ 0x00 ∷ 0x03 ∷ 0x00 ∷ 0x03 ∷ 0x01 ∷ 0x00 ∷ 0x00 ∷ []
+
+-- n times ff 00, and then s.
+unfoldable pub abstractors : ℕ → List ℕ → List ℕ
+abstractors zero s = s
+abstractors (suc n) s = 0xff ∷ 0x00 ∷ abstractors n s
+
+abbrev pub e1 : List ℕ
+e1 = 0xff ∷ 0x00 ∷ 0xff ∷ 0x01 ∷ 0x01 ∷ []
+
+abbrev pub e2 : List ℕ
+e2 = 0xff ∷ 0x00 ∷ 0xff ∷ 0x01 ∷ 0xfe ∷ 0x01 ∷ 0xff ∷ 0x02 ∷ 0x01 ∷ []
+
+abbrev pub e3 : List ℕ
+e3 = 0xff ∷ 0x00 ∷ 0xff ∷ 0x01 ∷ 0xfe ∷ 0x02 ∷ 0xff ∷ 0x00 ∷ 0xfe ∷ 0x02 ∷ 0xff ∷ 0x01 ∷ 0x01 ∷ []
+
+abbrev pub e5 : List ℕ
+e5 = 0xff ∷ 0x00 ∷ 0xff ∷ 0xff ∷ 0x01 ∷ 0x02 ∷ 0xff ∷ 0x02 ∷ 0xfe ∷ 0x01 ∷ 0x02 ∷ []
+
+-- the term of condition 11: 509 bytes, 01 fd in a field's head
+abbrev pub outgrown : List ℕ
+outgrown = 0xff ∷ 0xff ∷ 0x00 ∷ 0x00 ∷ abstractors 252 (0xfd ∷ [])
+
+-- [τ]⟨1⟩[1]1 and [τ]⟨1⟩[1]2
+abbrev pub paired : ℕ → List ℕ
+paired k = 0xff ∷ 0x00 ∷ 0xfe ∷ 0x01 ∷ 0xff ∷ 0x01 ∷ k ∷ []
+
+abbrev pub table : List Example
+table =
+    -- E1: its degree, and its type
+    examined e1 0 0 3
+    ∷ typed e1 (0xaa ∷ 0xaa ∷ 0xaa ∷ 0xaa ∷ 0xaa ∷ 0xaa ∷ []) (answer 0 0 5 (0xff ∷ 0x00 ∷ 0xff ∷ 0x01 ∷ 0x02 ∷ 0xaa ∷ []))
+    ∷ checked (file 5 e1 []) 0 0 0 3
+    -- E2 to E5
+    ∷ checked (file 9 e2 group) 0 0 1 3
+    ∷ checked (file 13 e3 (group ++ right-step)) 0 0 2 3
+    ∷ checked (file 13 e3 (group ++ group)) 12 8 1 3
+    ∷ checked (file 11 e5 group) 0 0 1 3
+    -- E6 to E9: the examples of 7, 8, 9 and 13
+    ∷ checked (file 5 (0xfe ∷ 0x00 ∷ 0xff ∷ 0x00 ∷ 0x00 ∷ []) []) 7 0 0 1
+    ∷ checked (file 3 (0xfe ∷ 0x00 ∷ 0x00 ∷ []) []) 8 0 0 1
+    ∷ checked (file 9 e2 []) 9 4 0 3
+    ∷ checked (file 1 (0x00 ∷ []) group) 13 4 0 1
+    -- the example of 11, in a check and as a written result
+    ∷ checked (0x01 ∷ 0x01 ∷ 0xfd ∷ outgrown) 11 508 0 2
+    ∷ typed outgrown [] (answer 11 0 0 [])
+    -- the examples of 10 and 12
+    ∷ checked (file 9 e2 (0x02 ∷ 0x00 ∷ 0x03 ∷ 0x09 ∷ 0x00 ∷ 0x00 ∷ 0x03 ∷ 0x00 ∷ 0x00 ∷ [])) 10 4 0 3
+    ∷ checked (file 9 (0xff ∷ 0x00 ∷ 0xff ∷ 0x01 ∷ 0xfe ∷ 0x01 ∷ 0xff ∷ 0x00 ∷ 0x01 ∷ []) group) 12 4 0 2
+    -- the example of 14; no type; the example of 3
+    ∷ typed (0xff ∷ 0x00 ∷ 0x01 ∷ []) (0xaa ∷ 0xaa ∷ []) (answer 14 0 0 (0xaa ∷ 0xaa ∷ []))
+    ∷ typed (0x00 ∷ []) (0xaa ∷ []) (nothing (0xaa ∷ []))
+    ∷ typed (0xff ∷ 0x00 ∷ []) (0xaa ∷ []) (answer 3 2 0 (0xaa ∷ []))
+    -- a local step lifts K past the pair's own abstractor; a pair is not removed while its variable is used
+    ∷ stepped (paired 0x01) 1 6 (0xaa ∷ 0xaa ∷ 0xaa ∷ 0xaa ∷ 0xaa ∷ 0xaa ∷ 0xaa ∷ 0xaa ∷ []) (answer 0 0 7 (0xff ∷ 0x00 ∷ 0xfe ∷ 0x01 ∷ 0xff ∷ 0x01 ∷ 0x02 ∷ 0xaa ∷ []))
+    ∷ stepped (paired 0x01) 2 2 [] (answer 10 0 0 [])
+    ∷ stepped (paired 0x02) 2 2 (0xaa ∷ 0xaa ∷ 0xaa ∷ 0xaa ∷ []) (answer 0 0 3 (0xff ∷ 0x00 ∷ 0x01 ∷ 0xaa ∷ []))
+    ∷ stepped (paired 0x02) 2 2 (0xaa ∷ 0xaa ∷ []) (answer 14 0 0 (0xaa ∷ 0xaa ∷ []))
+    ∷ stepped (paired 0x01) 9 0 (0xaa ∷ []) (answer 10 0 0 (0xaa ∷ []))
+    ∷ []
+
+-- One fact: each call gives its answer.
+pub record Answered : Type 0 where
+  pub answered : map (λ e. answerTo (e .call)) table ≡ map (λ e. e .gives) table
