@@ -1,7 +1,8 @@
 //! Files whose copied text is typed in copied text again and again: environments with several parents.
 
 use reference::frame::{type_of_variable, Entry, Frame};
-use reference::gen::{before, damage_groups, domain, file, Rng};
+use reference::gen::{before, damage_groups, domain, file};
+use reference::rng::Rng;
 use reference::normaliser::groups_for;
 use reference::term::{abs, app, Term, Term::*};
 

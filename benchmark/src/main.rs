@@ -11,7 +11,8 @@ mod inputs;
 
 use fast::{Answer, Space};
 use inputs::Input;
-use reference::gen::{self, Rng};
+use reference::gen::{self};
+use reference::rng::Rng;
 use reference::stack::on_large_stack;
 use std::hint::black_box;
 use std::process::exit;

@@ -1,6 +1,6 @@
 //! One call, and the two answers to it.
 
-use reference::gen::Rng;
+use reference::rng::Rng;
 use reference::TypeAnswer;
 use std::fmt;
 use std::panic::{catch_unwind, AssertUnwindSafe};
@@ -38,6 +38,11 @@ impl Answer {
     /// The refusal's number, 0 if accepted.
     pub fn number(&self) -> Option<usize> {
         self.numbers.map(|numbers| numbers[0] as usize)
+    }
+
+    /// Whether these bytes stand at the start of the lent buffer.
+    pub fn starts_with(&self, bytes: &[u8]) -> bool {
+        self.buffer[GUARD..].starts_with(bytes)
     }
 
     fn of(numbers: [u64; 4], buffer: Vec<u8>) -> Answer {

@@ -2,7 +2,7 @@
 //! of the two answers is compared, and every byte of a lent buffer with 8 bytes on each side of it.
 //!
 //! Compared first, whatever the seed:
-//! - the inputs at the limits in `named`, with each other and with the answer written there, and the sweeps in `limits`;
+//! - document 01's examples and the inputs at the limits in `named`, with each other and with the answer written there, and the sweeps in `limits`;
 //! - files: all strings of at most 4 bytes over the interesting values 00 01 02 03 fc fd fe ff (File, Check);
 //! - bare terms: all terms of at most 3 bytes, as all strings of at most 2 bytes and all of 3 that begin with fe or ff; all
 //!   strings of at most 5 bytes over the interesting values, since the 131 million terms of 5 bytes differ otherwise only in
@@ -20,7 +20,8 @@ mod shrink;
 mod tally;
 
 use call::{Answer, Call, Kind};
-use reference::gen::{bare_term, empty_groups, file, random_file, step_for, Rng};
+use reference::gen::{bare_term, empty_groups, file, random_file, step_for};
+use reference::rng::Rng;
 use reference::mistakes::set_aside;
 use reference::stack::on_large_stack;
 use shrink::report;
@@ -53,6 +54,10 @@ fn named_limits(tally: &mut Tally) -> Result<usize, Disagreed> {
         let answer = compare(&named.call, tally)?;
         if answer.numbers != named.numbers {
             println!("DISAGREE with the table on '{}': {answer} and not {:?}", named.name, named.numbers);
+            return Err(Disagreed);
+        }
+        if named.written.is_some_and(|written| !answer.starts_with(written)) {
+            println!("DISAGREE with the table on '{}': {answer}", named.name);
             return Err(Disagreed);
         }
     }
@@ -147,7 +152,7 @@ fn random(number: u64, tally: &mut Tally) -> Result<(), Disagreed> {
 fn run(seed: u64, count: u64) -> Result<Tally, Disagreed> {
     let mut tally = Tally::default();
     let written = on_large_stack(|| fixed(&mut tally))?;
-    println!("{written} inputs at the limits have the written answer");
+    println!("{written} examples and inputs at the limits have the written answer");
     let threads = thread::available_parallelism().map_or(1, |n| n.get().min(2));
     let stop = AtomicBool::new(false);
     let deal = |own: usize| {

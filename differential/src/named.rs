@@ -1,4 +1,4 @@
-//! Inputs at the limits, each with the answer that document 01 gives it, written out: just within a limit and just beyond it.
+//! Document 01's examples, and inputs just within a limit and just beyond it, each with its answer written out.
 //!
 //! Every state's size is odd: an item counts 1 and a term, whose size is odd. So 8,192 bytes is no state's size, and 8,191 and
 //! 8,193 are the neighbours of that limit; 4,095 and 4,097 those of a compared body's. While B is the term's own text, R, W and
@@ -8,13 +8,16 @@
 use crate::call::{Call, Kind};
 use reference::file::Group;
 use reference::frame::{Step, LOCAL, REMOVAL};
-use reference::gen::{all_four, empty_groups, file, nested, stepped_copies, times, Rng};
+use reference::gen::{all_four, empty_groups, file, nested, stepped_copies, times};
+use reference::rng::Rng;
 
 pub struct Named {
     pub name: &'static str,
     pub call: Call,
     /// What is expected; none for the answer 'none'.
     pub numbers: Option<[u64; 4]>,
+    /// What stands at the start of the lent buffer after the call, where it is written out here.
+    pub written: Option<&'static [u8]>,
 }
 
 /// The four numbers of a check.
@@ -25,7 +28,12 @@ struct Table(Vec<Named>);
 impl Table {
     fn check(&mut self, name: &'static str, file: Vec<u8>, (number, place, comparisons, degree): Numbers) {
         let numbers = Some([number, place as u64, comparisons, degree]);
-        self.0.push(Named { name, call: Call::new(Kind::Check, &file), numbers });
+        self.0.push(Named { name, call: Call::new(Kind::Check, &file), numbers, written: None });
+    }
+
+    /// Examining a file: number, place, and the part's start and end.
+    fn examine(&mut self, name: &'static str, file: &[u8], numbers: [u64; 4]) {
+        self.0.push(Named { name, call: Call::new(Kind::File, file), numbers: Some(numbers), written: None });
     }
 
     /// A file with empty groups.
@@ -36,7 +44,13 @@ impl Table {
     /// A call on a bare term, with a buffer of this length: number, place, and degree or length.
     fn bare(&mut self, name: &'static str, kind: Kind, term: &[u8], lent: usize, numbers: Option<(u64, usize, u64)>) {
         let numbers = numbers.map(|(number, place, third)| [number, place as u64, third, 0]);
-        self.0.push(Named { name, call: Call::lending(kind, term, lent, &mut Rng::new(0)), numbers });
+        self.0.push(Named { name, call: Call::lending(kind, term, lent, &mut Rng::new(0)), numbers, written: None });
+    }
+
+    /// The same with the result written out; it is accepted.
+    fn result(&mut self, name: &'static str, kind: Kind, term: &[u8], lent: usize, written: &'static [u8]) {
+        self.bare(name, kind, term, lent, Some((0, 0, written.len() as u64)));
+        self.0.last_mut().expect("just added").written = Some(written);
     }
 }
 
@@ -67,6 +81,8 @@ fn no_steps() -> Group {
 
 pub fn named() -> Vec<Named> {
     let mut table = Table(Vec::new());
+    conditions(&mut table);
+    examples(&mut table);
     files(&mut table);
     terms(&mut table);
     scopes(&mut table);
@@ -76,6 +92,103 @@ pub fn named() -> Vec<Named> {
     frame_pairs(&mut table);
     bare(&mut table);
     table.0
+}
+
+/// Document 01's table of conditions, in its order.
+fn conditions(t: &mut Table) {
+    let applied = [0xff, 0, 0xff, 1, 0xfe, 1, 0xff, 2, 1];
+    t.check("condition 1", vec![1, 0, 2, 0], (1, 0, 0, 0));
+    t.check("condition 2", vec![2, 0, 0], (2, 0, 0, 0));
+    t.plain("condition 3", &[0xff, 0], 0, (3, 2, 0, 0));
+    t.plain("condition 4", &times(4_097, &[0]), 0, (4, 0, 0, 0));
+    t.plain("condition 5", &[1], 0, (5, 0, 0, 0));
+    t.plain("condition 6", &joined(&[&declarations(254), &[0]]), 0, (6, 506, 0, 0));
+    t.plain("condition 7", &[0xfe, 0, 0xff, 0, 0], 0, (7, 0, 0, 1));
+    t.plain("condition 8", &[0xfe, 0, 0], 0, (8, 0, 0, 1));
+    t.plain("condition 9", &applied, 0, (9, 4, 0, 3));
+    t.check("condition 10", file(&applied, &[group(vec![Step { kind: 9, place: 0 }], vec![])]), (10, 4, 0, 3));
+    t.plain("condition 11", &joined(&[&[0xff, 0xff, 0, 0], &declarations(252), &[0xfd]]), 0, (11, 508, 0, 2));
+    t.plain("condition 12", &[0xff, 0, 0xff, 1, 0xfe, 1, 0xff, 0, 1], 1, (12, 4, 0, 2));
+    t.plain("condition 13", &[0], 1, (13, 4, 0, 1));
+    t.bare("condition 14", Kind::Type, &[0xff, 0, 1], 2, Some((14, 0, 0)));
+}
+
+/// E1 to E5, and types and steps on small terms with what they write.
+fn examples(t: &mut Table) {
+    use Kind::{Step as At, Term, Type};
+    let e1 = [0xff, 0, 0xff, 1, 1];
+    let e2 = [0xff, 0, 0xff, 1, 0xfe, 1, 0xff, 2, 1];
+    let e3 = [0xff, 0, 0xff, 1, 0xfe, 2, 0xff, 0, 0xfe, 2, 0xff, 1, 1];
+    let e5 = [0xff, 0, 0xff, 0xff, 1, 2, 0xff, 2, 0xfe, 1, 2];
+    t.bare("E1", Term, &e1, 0, Some((0, 0, 3)));
+    t.result("E1's type", Type, &e1, 6, &[0xff, 0, 0xff, 1, 2]);
+    t.result("E1's type, exact", Type, &e1, 5, &[0xff, 0, 0xff, 1, 2]);
+    t.plain("E2", &e2, 1, (0, 0, 1, 3));
+    t.result("E2's type", Type, &e2, 16, &[0xff, 0, 0xff, 1, 0xfe, 1, 0xff, 2, 3]);
+    t.result("E3's type", Type, &e3, 16, &[0xff, 0, 0xff, 1, 0xfe, 2, 0xff, 0, 0xfe, 2, 0xff, 1, 2]);
+    t.plain("E4", &e3, 2, (12, 8, 1, 3));
+    t.plain("E5", &e5, 1, (0, 0, 1, 3));
+    t.result("E5's type", Type, &e5, 16, &[0xff, 0, 0xff, 0xff, 1, 2, 0xff, 2, 0xfe, 1, 0xff, 3, 4]);
+    t.examine("E2's part", &file(&e2, &empty_groups(1)), [0, 0, 3, 12]);
+
+    t.bare("no type, no buffer", Type, &[0], 0, None);
+    t.bare("an empty term", Type, &[], 4, Some((3, 0, 0)));
+    t.bare("a byte past the term", Type, &[0, 0], 4, Some((3, 1, 0)));
+    t.bare("an index beyond scope", Type, &[1], 4, Some((5, 0, 0)));
+
+    let used = [0xff, 0, 0xfe, 1, 0xff, 1, 1];
+    let unused = [0xff, 0, 0xfe, 1, 0xff, 1, 2];
+    t.result("E3's right step", At(LOCAL, 11), &e3, 16, &[0xff, 0, 0xff, 1, 0xfe, 2, 0xff, 0, 0xfe, 2, 0xff, 3, 1]);
+    t.result("a local step", At(LOCAL, 6), &used, 8, &[0xff, 0, 0xfe, 1, 0xff, 1, 2]);
+    t.bare("a local step, buffer of 6", At(LOCAL, 6), &used, 6, Some((14, 0, 0)));
+    t.bare("a removal, still used", At(REMOVAL, 2), &used, 8, Some((10, 0, 0)));
+    t.result("a removal", At(REMOVAL, 2), &unused, 8, &[0xff, 0, 1]);
+    t.bare("a removal, buffer of 2", At(REMOVAL, 2), &unused, 2, Some((14, 0, 0)));
+    t.bare("a removal, used in a later K", At(REMOVAL, 0), &[0xfe, 0, 0xff, 0, 0xfe, 1, 0xff, 0, 0], 8, Some((10, 0, 0)));
+    t.bare("a removal, used in a later U", At(REMOVAL, 0), &[0xfe, 0, 0xff, 0, 0xff, 1, 0], 8, Some((10, 0, 0)));
+    t.bare("a removal, used at the end", At(REMOVAL, 0), &[0xfe, 0, 0xff, 0, 0xff, 0, 2], 8, Some((10, 0, 0)));
+    t.result("a removal, used nowhere", At(REMOVAL, 0), &[0xfe, 0, 0xff, 0, 0xff, 0, 1], 8, &[0xff, 0, 1]);
+    t.bare("a removal, no abstractor next", At(REMOVAL, 0), &[0xfe, 0, 0xfe, 0, 0xff, 0, 0], 8, Some((10, 0, 0)));
+    t.result("a removal of all wagons", At(REMOVAL, 0), &[0xfe, 0, 0xff, 0, 0], 8, &[0]);
+    let alone = [0xff, 0, 1];
+    for kind in [0, 3, 9, 255] {
+        t.bare("an unknown kind", At(kind, 2), &alone, 4, Some((10, 0, 0)));
+    }
+    t.bare("no partner", At(LOCAL, 2), &alone, 4, Some((10, 0, 0)));
+    t.bare("a local step at ff", At(LOCAL, 0), &alone, 4, Some((10, 0, 0)));
+    t.bare("a local step at 00", At(LOCAL, 1), &alone, 4, Some((10, 0, 0)));
+    t.bare("a removal at a variable", At(REMOVAL, 2), &alone, 4, Some((10, 0, 0)));
+    t.bare("a step on no term", At(LOCAL, 0), &[0xff, 0], 4, Some((3, 2, 0)));
+    t.bare("a step on a term that is not closed", At(LOCAL, 2), &[0xff, 0, 2], 4, Some((5, 2, 0)));
+    for byte in 0..=255 {
+        let number = match byte {
+            0 => None,
+            1..=0xfd => Some((5, 0, 0)),
+            _ => Some((3, 1, 0)),
+        };
+        t.bare("a single byte", Type, &[byte], 1, number);
+    }
+
+    let lies = |bytes: &[u8], number: u64, place: u64| ([number, place, 0, 0], bytes.to_vec());
+    for (numbers, bytes) in [
+        lies(&[1], 1, 0),
+        lies(&[1, 0], 1, 0),
+        lies(&[1, 0, 0], 3, 0),
+        lies(&[1, 0, 1, 0xff, 0, 0], 1, 4),
+        lies(&[1, 0xff, 0xff, 0], 1, 0),
+        lies(&[1, 0, 1, 0, 2, 0, 0], 1, 7),
+        lies(&[1, 0, 1, 0, 2, 0, 0, 3, 0], 1, 7),
+        lies(&[1, 0, 1, 0, 3, 0, 0, 2, 0, 0], 2, 4),
+        lies(&[1, 0, 1, 0, 2, 0, 2, 1, 0, 3, 0, 0], 2, 4),
+        lies(&[1, 0, 1, 0, 0], 1, 4),
+    ] {
+        t.examine("a head that lies, or a field that is not due", &bytes, numbers);
+    }
+    // ff 00 00, then one group with 21,841 left steps: 65,535 bytes.
+    let mut longest = file(&[0xff, 0, 0], &[group(vec![Step { kind: 0, place: 0 }; 21_841], vec![])]);
+    t.examine("65,535 bytes, examined", &longest, [0, 0, 3, 6]);
+    longest[65_534] = 1;
+    t.examine("65,535 bytes, a length that lies", &longest, [1, 65_532, 0, 0]);
 }
 
 /// Lengths of files, numbers of groups, cuts.

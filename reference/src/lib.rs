@@ -9,6 +9,7 @@ pub mod gen;
 pub mod mistakes;
 pub mod normaliser;
 pub mod refusal;
+pub mod rng;
 pub mod stack;
 pub mod term;
 pub mod walk;

@@ -2,7 +2,7 @@
 
 use crate::file::Group;
 use crate::frame::{apply, body_outgrown, Entry, Frame, Step, LOCAL, REMOVAL};
-use crate::gen::Rng;
+use crate::rng::Rng;
 use crate::term::{Term, Term::*};
 use crate::walk::walk;
 

@@ -2,7 +2,8 @@
 
 mod common;
 use common::*;
-use reference::gen::{times, Rng};
+use reference::gen::{times};
+use reference::rng::Rng;
 use reference::*;
 
 // ------------------------------------------------- the table of conditions

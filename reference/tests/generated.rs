@@ -4,6 +4,7 @@ mod common;
 use common::*;
 use reference::file::read_fields;
 use reference::gen::*;
+use reference::rng::Rng;
 use reference::normaliser::groups_for;
 use reference::refusal::*;
 use reference::stack::on_large_stack;

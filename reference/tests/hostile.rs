@@ -2,7 +2,8 @@
 
 mod common;
 use common::*;
-use reference::gen::{empty_groups, field, long_unfolding, nested, times, Rng};
+use reference::gen::{empty_groups, field, long_unfolding, nested, times};
+use reference::rng::Rng;
 use reference::stack::on_large_stack;
 use reference::*;
 

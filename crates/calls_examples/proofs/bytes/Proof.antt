@@ -1,11 +1,11 @@
--- `calls_examples::print_bytes` is safe and ends.
+-- `calls_examples::bytes` is safe and ends.
 -- Assumes nothing.
 use Prim.Native.Nat.{_≤_, _-_}
 use native.Mathlib.Omega.{arith}
 use borrow.Author.Needs.{needs}
 use lib.ListN.{length}
-use Rattle.calls_examples.proofs.print_bytes.Statement.{statement}
-use Rattle.calls_examples.proofs.print_bytes.Tie as tie
+use Rattle.calls_examples.proofs.bytes.Statement.{statement}
+use Rattle.calls_examples.proofs.bytes.Tie as tie
 
 abbrev Inv-loop : tie.InvT-loop
 Inv-loop s i₀ t4 i = i ≤ length s
@@ -49,8 +49,8 @@ write-all-requires-2 c κs = search needs
 returns : tie.Need-returns Inv-loop μ-loop
 returns c = search needs
 
-pub print-bytes-spec : {M : Type 1} → statement M
-print-bytes-spec =
+pub bytes-spec : {M : Type 1} → statement M
+bytes-spec =
     tie.close
     (tie.spec
     Inv-loop
