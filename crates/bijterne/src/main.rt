@@ -1,18 +1,4 @@
-// Checks standard input and prints number, place, comparisons and degree in decimal, one space between, then a line feed.
-fn show(x: usize) {
-    let _ok = io::print_decimal(1, x as u64);
-}
-
+// The program as Rattle builds it. Rattle's main has no exit status: program/main.c hands it over.
 fn main() {
-    let mut buf = io::large_buffer();
-    let n = io::read_full(0, &mut buf);
-    let a = checker::check(&buf[..n]);
-    show(a.number as usize);
-    io::write_all(1, b" ");
-    show(a.place);
-    io::write_all(1, b" ");
-    show(a.comparisons);
-    io::write_all(1, b" ");
-    show(a.degree);
-    io::write_all(1, b"\n");
+    let _status = program::bijterne_run();
 }
