@@ -3,6 +3,7 @@
 //!     benchmark                            every input: the answers of all three implementations, then the times
 //!     benchmark quick                      the same without the reference's answers, which take a minute
 //!     benchmark agree SEED COUNT           fast and proved against the reference on generated files
+//!     benchmark wrapper                    the three ways to check a file from Rust
 //!     benchmark one NAME proved|fast [N]   one input alone, N times, for a profiler
 
 mod chains;
@@ -24,6 +25,7 @@ fn main() {
     on_large_stack(|| match args[..] {
         [] => benchmark(true),
         ["quick"] => benchmark(false),
+        ["wrapper"] => wrapper(),
         ["agree", seed, count] => agree(number(seed), number(count)),
         ["one", name, which] => one(name, which, 1),
         ["one", name, which, count] => one(name, which, number(count)),
@@ -32,7 +34,7 @@ fn main() {
 }
 
 fn usage() -> ! {
-    eprintln!("usage: benchmark [quick | agree SEED COUNT | one NAME proved|fast [N]]");
+    eprintln!("usage: benchmark [quick | wrapper | agree SEED COUNT | one NAME proved|fast [N]]");
     exit(2)
 }
 
@@ -168,6 +170,29 @@ fn measure(line: &mut Line, space: &mut Space) {
             });
         }
         line.best[which] = line.best[which].min((now() - from) / calls);
+    }
+}
+
+/// What a call costs its caller from Rust, in time that passes: the best of 100 measurements of 100 calls.
+fn wrapper() {
+    let mut checker = bijterne::Checker::new().expect("a thread can be started");
+    println!("{:44} {:>10} {:>10} {:>10}   us a call", "input", "check", "Checker", "check_here");
+    for input in inputs::ALL.into_iter().filter(|input| ["small", "book1", "book4"].contains(&input.name)) {
+        let file = (input.make)();
+        let mut best = [f64::MAX; 3];
+        for round in 0..300 {
+            let from = std::time::Instant::now();
+            for _ in 0..100 {
+                let file = black_box(&file[..]);
+                match round % 3 {
+                    0 => drop(black_box(bijterne::check(file))),
+                    1 => drop(black_box(checker.check(file))),
+                    _ => drop(black_box(proved_answer(file))),
+                }
+            }
+            best[round % 3] = best[round % 3].min(from.elapsed().as_secs_f64() * 1e4);
+        }
+        println!("{:44} {:>10.1} {:>10.1} {:>10.1}", input.what, best[0], best[1], best[2]);
     }
 }
 

@@ -3,6 +3,7 @@
 //! `number` is 0 if accepted, else the number of the refusal (README, 'Refusals'), and `place` says where. At a refusal a
 //! lent buffer keeps every byte; after a result it keeps every byte past it.
 
+use std::sync::mpsc::{sync_channel, Receiver, SyncSender};
 use std::thread;
 
 mod raw {
@@ -90,8 +91,8 @@ fn written(a: [u64; 3]) -> Written {
     Written { number: a[0] as u32, place: a[1] as usize, length: a[2] as usize }
 }
 
-/// Checks a file, on a thread of its own, so that the caller's stack is no matter. To check many small files, `check_here` on
-/// one thread with a large stack is faster.
+/// Checks a file, on a thread of its own, so that the caller's stack is no matter. For many files a `Checker` starts its thread
+/// once.
 ///
 /// # Panics
 ///
@@ -116,4 +117,56 @@ pub unsafe fn check_here(file: &[u8]) -> CheckAnswer {
     let mut a = [0; 4];
     raw::bijterne_check(file.as_ptr(), file.len(), &mut a);
     CheckAnswer { number: a[0] as u32, place: a[1] as usize, comparisons: a[2] as usize, degree: a[3] as usize }
+}
+
+/// Checks files one after the other, on a thread of its own that lives as long as the `Checker`.
+pub struct Checker {
+    /// None once it is dropped, which ends the thread.
+    files: Option<SyncSender<Lent>>,
+    answers: Receiver<CheckAnswer>,
+    thread: Option<thread::JoinHandle<()>>,
+}
+
+/// A file that its owner keeps until the answer has come.
+struct Lent(*const u8, usize);
+
+// SAFETY: `Checker::check` holds the file borrowed while the thread reads it, and nobody writes it.
+unsafe impl Send for Lent {}
+
+impl Checker {
+    /// # Errors
+    ///
+    /// If no thread can be started.
+    pub fn new() -> std::io::Result<Checker> {
+        let (files, lent) = sync_channel::<Lent>(1);
+        let (answer, answers) = sync_channel(1);
+        let work = move || {
+            for Lent(bytes, length) in lent {
+                // SAFETY: `check` waits for the answer with the file borrowed; this thread's stack is as large as any check needs.
+                let given = unsafe { check_here(std::slice::from_raw_parts(bytes, length)) };
+                if answer.send(given).is_err() {
+                    return;
+                }
+            }
+        };
+        let thread = thread::Builder::new().stack_size(CHECK_STACK_BYTES).spawn(work)?;
+        Ok(Checker { files: Some(files), answers, thread: Some(thread) })
+    }
+
+    /// Checks a file. The answers are those of `check`.
+    pub fn check(&mut self, file: &[u8]) -> CheckAnswer {
+        let files = self.files.as_ref().expect("a Checker has its thread until it is dropped");
+        files.send(Lent(file.as_ptr(), file.len())).expect("the thread takes files until it is told that none comes");
+        self.answers.recv().expect("a check returns")
+    }
+}
+
+impl Drop for Checker {
+    fn drop(&mut self) {
+        self.files = None;
+        if let Some(thread) = self.thread.take() {
+            // A check does not panic, and a panic here could not be answered.
+            let _ended = thread.join();
+        }
+    }
 }

@@ -1,6 +1,6 @@
 //! All five calls on small inputs, one line for each. The C example prints the same lines.
 
-use bijterne::{apply_step, check, examine_file, examine_term, write_type, Written};
+use bijterne::{apply_step, check, examine_file, examine_term, write_type, CheckAnswer, Checker, Written};
 use std::thread;
 
 /// [a:tau] [x:a] <x> [y:a] y, and its file: the term, then a group with no steps.
@@ -38,7 +38,10 @@ fn numbers(a: Written) -> String {
 }
 
 fn show_check(what: &str, file: &[u8]) {
-    let a = check(file);
+    show(what, check(file));
+}
+
+fn show(what: &str, a: CheckAnswer) {
     println!("{what}: {} {} {} {}", a.number, a.place, a.comparisons, a.degree);
 }
 
@@ -82,8 +85,10 @@ fn main() {
     println!("examine a file cut short: {} {} {}", a.number, a.place, a.term.len());
 
     show_check("check without a group", &FILE[..FILE.len() - 6]);
-    show_check("check E3", E3);
-    show_check("check E3 without its step", E4);
+    // For many files: one thread for all.
+    let mut checker = Checker::new().expect("a thread can be started");
+    show("check E3", checker.check(E3));
+    show("check E3 without its step", checker.check(E4));
 
     // A check does not depend on the caller's stack.
     let small = thread::Builder::new().stack_size(64 << 10).spawn(|| {
