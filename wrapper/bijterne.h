@@ -19,7 +19,7 @@
 extern "C" {
 #endif
 
-/* The numbers, and what the place counts: in the file, or in the term. README, 'Refusals', says more. */
+/* The numbers, and what the place counts: in the file, or in the term. docs/REFUSALS.md says more. */
 enum bijterne_number {
     BIJTERNE_ACCEPTED = 0,
     BIJTERNE_CUT_SHORT = 1,           /* a field ends too early, or the file is empty; the field's head, in the file */

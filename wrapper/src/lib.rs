@@ -1,7 +1,7 @@
 //! The five calls of the proved checker, for Rust. No call relies on an earlier one, and every call returns.
 //!
-//! `number` is 0 if accepted, else the number of the refusal (README, 'Refusals'), and `place` says where. At a refusal a
-//! lent buffer keeps every byte; after a result it keeps every byte past it.
+//! `number` is 0 if accepted, else the number of the refusal (module `number`; docs/REFUSALS.md), and `place` says where. At a
+//! refusal a lent buffer keeps every byte; after a result it keeps every byte past it.
 
 use std::sync::mpsc::{sync_channel, Receiver, SyncSender};
 use std::thread;
@@ -14,6 +14,25 @@ mod raw {
         pub fn bijterne_apply_step(s: *const u8, n: usize, kind: u8, place: u16, out: *mut u8, m: usize, answer: *mut [u64; 3]);
         pub fn bijterne_check(s: *const u8, n: usize, answer: *mut [u64; 4]);
     }
+}
+
+/// What `number` says (docs/REFUSALS.md).
+pub mod number {
+    pub const ACCEPTED: u32 = 0;
+    pub const CUT_SHORT: u32 = 1;
+    pub const WRONG_FIELD: u32 = 2;
+    pub const NOT_ONE_TERM: u32 = 3;
+    pub const TOO_LONG: u32 = 4;
+    pub const BEYOND_SCOPE: u32 = 5;
+    pub const TOO_MANY_IN_SCOPE: u32 = 6;
+    pub const NO_TYPE: u32 = 7;
+    pub const STILL_WAITING: u32 = 8;
+    pub const NO_GROUP_LEFT: u32 = 9;
+    pub const STEP_NOT_POSSIBLE: u32 = 10;
+    pub const OUTGROWN: u32 = 11;
+    pub const BODIES_DIFFER: u32 = 12;
+    pub const GROUPS_LEFT: u32 = 13;
+    pub const BUFFER_TOO_SHORT: u32 = 14;
 }
 
 #[derive(Clone, Copy, Debug, PartialEq, Eq)]

@@ -27,7 +27,7 @@ pub fn examine_file<'a>(s: &'a [u8], number: &mut u32, place: &mut usize) -> &'a
     let fields = fields::read_fields(s);
     let code = fields.number;
     if code != 0 {
-        *number = code as u32;
+        *number = code;
         *place = fields.place;
         return &s[..0];
     }

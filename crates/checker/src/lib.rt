@@ -1,6 +1,8 @@
 // Check a file: the fifth call.
 ghost use mathlib.Core.Path.{_≡_};
 ghost use Rattle.checker.specs.Answer.{Checked};
+use code::numbers::ACCEPTED;
+use code::numbers::GROUPS_LEFT;
 use walk::walk_term;
 
 // Number (0 if accepted), place, comparisons completed, degree.
@@ -27,20 +29,20 @@ pub fn check(s: &[u8]) -> CheckAnswer
     ensures { λ r. ⌜ Checked (now (s .entry)) r ⌝ }
 {
     let fields = fields::read_fields(s);
-    let code = fields.number;
-    if code != 0 {
-        return refusal(code as u32, fields.place);
+    let number = fields.number;
+    if number != ACCEPTED {
+        return refusal(number, fields.place);
     }
     let end = fields.end;
     let part = fields::term_part(s, end);
     let term = examine::examine_term(part);
     let degree = term.degree;
-    if term.number != 0 {
+    if term.number != ACCEPTED {
         return refusal(term.number, term.place);
     }
     let walked = walk_term(s, part, end);
     let comparisons = walked.comparisons;
-    if walked.number != 0 {
+    if walked.number != ACCEPTED {
         return CheckAnswer {
             number: walked.number,
             place: walked.place,
@@ -51,14 +53,14 @@ pub fn check(s: &[u8]) -> CheckAnswer
     let next = walked.next;
     if next < s.len() {
         return CheckAnswer {
-            number: 13,
+            number: GROUPS_LEFT,
             place: next,
             comparisons,
             degree,
         };
     }
     CheckAnswer {
-        number: 0,
+        number: ACCEPTED,
         place: 0,
         comparisons,
         degree,

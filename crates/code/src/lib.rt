@@ -1,5 +1,7 @@
 // The byte code of terms: what each byte does to the balance, and where a term ends.
 // The empty functions at the end carry the promises of specs/Claims.antt.
+pub mod numbers;
+
 ghost use mathlib.Core.Path.{_≡_};
 ghost use Prim.Native.Nat.{_≤_};
 ghost use lib.ListN.{length};

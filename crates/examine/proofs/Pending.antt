@@ -16,7 +16,7 @@ use Rattle.code.specs.Claims.{Stands}
 use Rattle.code.proofs.Parts.{stands-start, stands-end, Head, head-tau, head-var, head-app, head-abs, head}
 use Rattle.examine.specs.Inspect.{Fault, no-fault, beyond, deep, leftmost, inspect, refused, judged}
 use Rattle.examine.proofs.Laws.{index-within, index-past}
-use Rattle.examine.specs.Turn.{Tested, passes, index-beyond, too-deep, Graded, Parts}
+use Rattle.examine.specs.Contracts.{ByteFault, passes, index-beyond, too-deep, Graded, Parts}
 
 -- The first n entries of an array, the latest first.
 abbrev pub latest : List ℕ → ℕ → List ℕ
@@ -138,19 +138,19 @@ module _ {s : List ℕ} {i j d : ℕ} where
   deep-here G (head-abs b h k) l q = rw (le-ltb d mostAbstractors q)
 
   -- a fault here is the leftmost
-  pub refused-here : {t : Term} {F : Fault} {r : ℕ} (G : Fault) (u : Term) → Head s i j t → F ≡ leftmost (inspect d i t) G → Tested (getD s i 0) d r → (r ≡ 0 → ⊥)
+  pub refused-here : {t : Term} {F : Fault} {r : ℕ} (G : Fault) (u : Term) → Head s i j t → F ≡ leftmost (inspect d i t) G → ByteFault (getD s i 0) d r → (r ≡ 0 → ⊥)
       → judged F u ≡ refused r i
   unfolding judged
   refused-here G u w f (passes x y) n = absurd (n refl)
   refused-here G u w f (index-beyond x y) n = rw (f, beyond-here G w x y)
   refused-here G u w f (too-deep x y) n = rw (f, deep-here G w x y)
 
-pub tested-index : {b d r : ℕ} → Tested b d r → r ≡ 0 → b < 0xfe → b ≤ d
+pub tested-index : {b d r : ℕ} → ByteFault b d r → r ≡ 0 → b < 0xfe → b ≤ d
 tested-index (passes x y) e = x
 tested-index (index-beyond x y) e = absurd (omega arith)
 tested-index (too-deep x y) e = absurd (omega arith)
 
-pub tested-scope : {b d r : ℕ} → Tested b d r → r ≡ 0 → b ≡ 0xff → d < mostAbstractors
+pub tested-scope : {b d r : ℕ} → ByteFault b d r → r ≡ 0 → b ≡ 0xff → d < mostAbstractors
 tested-scope (passes x y) e = y
 tested-scope (index-beyond x y) e = absurd (omega arith)
 tested-scope (too-deep x y) e = absurd (omega arith)
@@ -182,7 +182,7 @@ module _ {s outside opens degrees : List ℕ} {g n e i j d last last′ count : 
 
 -- A turn, as the code makes it.
 module _ {s outside opens degrees : List ℕ} {g n m i last last′ r count x : ℕ} {F : Fault} (room : suc n < length outside) (room′ : suc n < length opens) (big : mostAbstractors < length degrees)
-    (ts : Tested (getD s i 0) (getD outside n 0 + getD opens n 0) r) (ok : r ≡ 0)
+    (ts : ByteFault (getD s i 0) (getD outside n 0 + getD opens n 0) r) (ok : r ≡ 0)
     (gr : Graded (set degrees (getD outside n 0) last) (getD s i 0) (getD outside n 0 + getD opens n 0) last last′) (pt : Parts (getD s i 0) count x) where
   pub turned : Pending s outside opens degrees g (suc n) m i last F
       → Pending s (set (set outside n (getD outside n 0 + getD opens n 0)) (suc n) (getD outside n 0 + getD opens n 0)) (set (set opens n x) (suc n) 0)

@@ -20,7 +20,7 @@ use Rattle.code.proofs.FirstZero.{whole}
 use Rattle.code.proofs.Parts.{head}
 use Rattle.examine.specs.Inspect.{Fault, no-fault, beyond, deep, leftmost, inspect, refused, accepted, judged, examined, answerOf, termAnswer}
 use Rattle.examine.specs.declared.TermAnswer.{TermAnswer}
-use Rattle.examine.specs.Turn.{Tested, Graded, Parts}
+use Rattle.examine.specs.Contracts.{ByteFault, Graded, Parts}
 use Rattle.examine.proofs.Laws.{examined-whole, answered}
 use Rattle.examine.proofs.Pending.{Pending, end, next, push, pending-fit, pending-some, pending-none, refused-here, turned}
 
@@ -103,7 +103,7 @@ depth-pending : {s outside opens degrees : List ℕ} {g m i last : ℕ} {F : Fau
 depth-pending n (next l ol dl h f v) = dl
 
 refused-pending : {s outside opens degrees : List ℕ} {g m i last r : ℕ} {F : Fault} (n : ℕ) (u : Term) → Pending s outside opens degrees g (suc n) m i last F
-    → Tested (getD s i 0) (getD outside n 0 + getD opens n 0) r → (r ≡ 0 → ⊥) → judged F u ≡ refused r i
+    → ByteFault (getD s i 0) (getD outside n 0 + getD opens n 0) r → (r ≡ 0 → ⊥) → judged F u ≡ refused r i
 refused-pending n u (next {G = G} l ol dl h f v) ts z = refused-here G u (head h) f ts z
 
 module _ {s outside opens degrees : List ℕ} {sp last i : ℕ} (v : Running s outside opens degrees sp last i) (h : i < length s) where
@@ -119,14 +119,14 @@ module _ {s outside opens degrees : List ℕ} {sp last i : ℕ} (v : Running s o
   pub depth-small : getD outside (sp - 1) 0 + getD opens (sp - 1) 0 ≤ mostAbstractors
   depth-small = depth-pending (sp - 1) top
 
-  pub stops : {r : ℕ} {x : TermAnswer} → Tested (getD s i 0) (getD outside (sp - 1) 0 + getD opens (sp - 1) 0) r → (r ≡ 0 → ⊥) → x ≡ answerOf (refused r i) → x ≡ termAnswer s
+  pub stops : {r : ℕ} {x : TermAnswer} → ByteFault (getD s i 0) (getD outside (sp - 1) 0 + getD opens (sp - 1) 0) r → (r ≡ 0 → ⊥) → x ≡ answerOf (refused r i) → x ≡ termAnswer s
   stops ts z = answered s (v .found-whole ∙ refused-pending (sp - 1) (v .term) top ts z)
 
   module _ {at : ℕ} (q : at ≡ getD outside (sp - 1) 0) where
     pub degrees-set-small : (k : ℕ) → getD (set degrees at last) k 0 ≤ i
     degrees-set-small = set-small degrees at last i (omega (arith, v .degrees-room, depth-small)) (v .degrees-small) (v .last-small)
 
-    pub goes-on : {r last′ count x : ℕ} → length s ≤ longestTerm → Tested (getD s i 0) (getD outside (sp - 1) 0 + getD opens (sp - 1) 0) r → r ≡ 0
+    pub goes-on : {r last′ count x : ℕ} → length s ≤ longestTerm → ByteFault (getD s i 0) (getD outside (sp - 1) 0 + getD opens (sp - 1) 0) r → r ≡ 0
         → Graded (set degrees at last) (getD s i 0) (getD outside (sp - 1) 0 + getD opens (sp - 1) 0) last last′ → Parts (getD s i 0) count x
         → Running s (set (set outside (sp - 1) (getD outside (sp - 1) 0 + getD opens (sp - 1) 0)) sp (getD outside (sp - 1) 0 + getD opens (sp - 1) 0))
         (set (set opens (sp - 1) x) sp 0) (set degrees at last) (sp - 1 + count) last′ (i + 1)

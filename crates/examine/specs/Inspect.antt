@@ -10,6 +10,7 @@ use Rattle.calculus.specs.Terms.{Term, tau, var, app, abs, size}
 use Rattle.calculus.specs.Frames.{ε}
 use Rattle.calculus.specs.Types.{nth, degreeIn, degrees, degree}
 use Rattle.code.specs.Limits.{longestTerm, mostAbstractors}
+use Rattle.code.specs.Refusals.{notOneTerm, tooLong, beyondScope, tooManyInScope}
 use Rattle.code.specs.Code.{decode, termEnd}
 use Rattle.examine.specs.declared.TermAnswer.{TermAnswer}
 
@@ -50,25 +51,25 @@ pub data Examined : Type 0 where
 -- 5 and 6, leftmost first.
 unfoldable pub judged : Fault → Term → Examined
 judged no-fault t = accepted t
-judged (beyond p) t = refused 5 p
-judged (deep p) t = refused 6 p
+judged (beyond p) t = refused beyondScope p
+judged (deep p) t = refused tooManyInScope p
 
 -- The case none does not occur: here the bytes are a whole term.
 unfoldable pub decoded : Option Term → Examined
 unfolding judged inspect
-decoded none = refused 3 0
+decoded none = refused notOneTerm 0
 decoded (some t) = judged (inspect 0 0 t) t
 
 -- 3, 'not exactly one term': the place is the first byte past it, or the length where it does not end.
 unfoldable pub ended : List ℕ → Option ℕ → Examined
 unfolding decoded decode
-ended s none = refused 3 (length s)
-ended s (some e) = cond (eqb e (length s)) (decoded (decode s)) (refused 3 e)
+ended s none = refused notOneTerm (length s)
+ended s (some e) = cond (eqb e (length s)) (decoded (decode s)) (refused notOneTerm e)
 
 -- 4, 'term over 4,096 bytes', before all else.
 unfoldable pub examined : List ℕ → Examined
 unfolding ended termEnd
-examined s = cond (leb (length s) longestTerm) (ended s (termEnd s 0)) (refused 4 0)
+examined s = cond (leb (length s) longestTerm) (ended s (termEnd s 0)) (refused tooLong 0)
 
 -- Number, place and degree: number 0 if accepted, degree 0 if refused.
 unfoldable pub answerOf : Examined → TermAnswer

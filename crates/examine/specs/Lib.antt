@@ -1,5 +1,5 @@
 -- The definitions and promises of this crate.
 -- Assumes nothing.
 pub mod Inspect
-pub mod Turn
+pub mod Contracts
 pub mod Claims

@@ -7,12 +7,15 @@ ghost use lib.ListN.{length, getD};
 ghost use Rattle.code.specs.Limits.{longestTerm, mostAbstractors};
 ghost use Rattle.code.specs.Code.{termEnd};
 ghost use Rattle.examine.specs.Inspect.{refused, answerOf, termAnswer};
-ghost use Rattle.examine.specs.Turn.{Tested, Graded, Parts};
+ghost use Rattle.examine.specs.Contracts.{ByteFault, Graded, Parts};
 ghost use Rattle.examine.specs.Claims.{Examining, Examples};
-
-const LONGEST_TERM: usize = 4096;
-
-const MOST_ABSTRACTORS: u8 = 253;
+use code::numbers::ACCEPTED;
+use code::numbers::BEYOND_SCOPE;
+use code::numbers::LONGEST_TERM;
+use code::numbers::MOST_ABSTRACTORS;
+use code::numbers::NOT_ONE_TERM;
+use code::numbers::TOO_LONG;
+use code::numbers::TOO_MANY_IN_SCOPE;
 
 // The number (0 if accepted), place and degree (0 if refused).
 pub struct TermAnswer {
@@ -45,21 +48,21 @@ fn refusal(number: u32, place: usize) -> TermAnswer
 
 // The number of the fault of a byte that stands in d scopes, or 0.
 fn fault_of(b: u8, d: u8) -> u32
-    ensures { λ r. ⌜ Tested b d r ⌝ }
+    ensures { λ r. ⌜ ByteFault b d r ⌝ }
 {
     if b == 255 {
-        if d < MOST_ABSTRACTORS {
-            return 0;
+        if wide(d) < MOST_ABSTRACTORS {
+            return ACCEPTED;
         }
-        return 6;
+        return TOO_MANY_IN_SCOPE;
     }
     if b == 254 {
-        return 0;
+        return ACCEPTED;
     }
     if d < b {
-        return 5;
+        return BEYOND_SCOPE;
     }
-    0
+    ACCEPTED
 }
 
 // The degree of the last terminal, once the byte b is read.
@@ -110,7 +113,7 @@ fn walk(s: &[u8]) -> TermAnswer
         degrees[at] = last; // the degree of U, in the rest after an abstractor; elsewhere an entry out of use
         let d = e + opens[top];
         let fault = fault_of(b, d);
-        if fault != 0 {
+        if fault != ACCEPTED {
             return refusal(fault, i);
         }
         last = degree_after(b, d, last, &degrees);
@@ -123,7 +126,7 @@ fn walk(s: &[u8]) -> TermAnswer
         i += 1;
     }
     TermAnswer {
-        number: 0,
+        number: ACCEPTED,
         place: 0,
         degree: last as usize,
     }
@@ -134,14 +137,14 @@ pub fn examine_term(s: &[u8]) -> TermAnswer
     ensures { λ r. ⌜ r ≡ termAnswer (now (s .entry)) ⌝ }
 {
     if s.len() > LONGEST_TERM {
-        return refusal(4, 0);
+        return refusal(TOO_LONG, 0);
     }
     let end = code::term_end(s, 0);
     match end {
-        code::End::Never => refusal(3, s.len()),
+        code::End::Never => refusal(NOT_ONE_TERM, s.len()),
         code::End::At(e) => {
             if e != s.len() {
-                return refusal(3, e);
+                return refusal(NOT_ONE_TERM, e);
             }
             walk(s)
         }

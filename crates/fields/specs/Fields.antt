@@ -9,6 +9,7 @@ use lib.Dec.{leb, ltb, eqb}
 use Rattle.calculus.specs.Steps.{Step}
 use Rattle.calculus.specs.Rules.{Group}
 use Rattle.code.specs.Limits.{longestFile}
+use Rattle.code.specs.Refusals.{cutShort, wrongField, tooLong}
 use Rattle.fields.specs.declared.Field.{Field}
 use Rattle.fields.specs.declared.Field.the-variants.{Fault, End}
 use Rattle.fields.specs.declared.Layout.{Layout}
@@ -26,10 +27,10 @@ bodyEnd s at = at + 3 + word s (at + 1)
 -- Head whole, tag, body whole, multiple.
 unfoldable pub fieldAt : (tag unit : ℕ) → List ℕ → ℕ → Field
 fieldAt tag unit s at =
-    cond (ltb (length s) (at + 3)) (Fault 1 at)
-    (cond (not (eqb (getD s at 0) tag)) (Fault 2 at)
-    (cond (ltb (length s) (bodyEnd s at)) (Fault 1 at)
-    (cond (not (eqb (word s (at + 1) % unit) 0)) (Fault 2 at)
+    cond (ltb (length s) (at + 3)) (Fault cutShort at)
+    (cond (not (eqb (getD s at 0) tag)) (Fault wrongField at)
+    (cond (ltb (length s) (bodyEnd s at)) (Fault cutShort at)
+    (cond (not (eqb (word s (at + 1) % unit) 0)) (Fault wrongField at)
     (End (bodyEnd s at)))))
 
 -- What follows a field, at its end.
@@ -92,7 +93,7 @@ groupsFrom (suc k) s e at =
 -- The file: its length, the term's field, the groups.
 unfoldable pub readFile : List ℕ → Fields
 unfolding word fieldAt thenField groupEnd stepsFrom thenFields withGroup groupsFrom
-readFile s = cond (ltb longestFile (length s)) (refused 4 0) (thenFields (fieldAt 1 1 s 0) (λ e. groupsFrom (length s) s e e))
+readFile s = cond (ltb longestFile (length s)) (refused tooLong 0) (thenFields (fieldAt 1 1 s 0) (λ e. groupsFrom (length s) s e e))
 
 -- The same in numbers: number and place, the end of the term's body (0 where refused), and how many groups, n and those that follow.
 abbrev pub layoutWith : ℕ → Fields → Layout

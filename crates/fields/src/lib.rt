@@ -5,18 +5,21 @@ ghost use lib.ListN.{length};
 ghost use Rattle.fields.specs.Fields.{word, fieldAt, groupEnd, groupsFrom, readFile, refused, layoutOf, stepOf, termBytes, GroupHere, SpanOf};
 ghost use Rattle.fields.specs.Claims.{Reading, Writing};
 ghost use Rattle.fields.specs.Examples.{Examples};
-
-const FILE_LIMIT: usize = 65535;
+use code::numbers::ACCEPTED;
+use code::numbers::CUT_SHORT;
+use code::numbers::LONGEST_FILE;
+use code::numbers::TOO_LONG;
+use code::numbers::WRONG_FIELD;
 
 // A field: its end, or the number and the place of its refusal.
 pub enum Field {
-    Fault(u8, usize),
+    Fault(u32, usize),
     End(usize),
 }
 
 // A file: the number (0 where accepted) and place of the refusal; the end of the term's body; how many groups.
 pub struct Layout {
-    pub number: u8,
+    pub number: u32,
     pub place: usize,
     pub end: usize,
     pub groups: usize,
@@ -58,19 +61,19 @@ fn read_field(s: &[u8], at: usize, tag: u8, unit: usize) -> Field
     ensures { λ r. ⌜ r ≡ fieldAt tag unit (now (s .entry)) at ⌝ }
 {
     if s.len() - at < 3 {
-        return Field::Fault(1, at); // the head is cut short
+        return Field::Fault(CUT_SHORT, at); // the head is cut short
     }
     let t = s[at];
     let n = word_at(s, at + 1);
     let left = s.len() - (at + 3);
     if t != tag {
-        return Field::Fault(2, at); // another tag
+        return Field::Fault(WRONG_FIELD, at); // another tag
     }
     if left < n {
-        return Field::Fault(1, at); // the body is cut short
+        return Field::Fault(CUT_SHORT, at); // the body is cut short
     }
     if n % unit != 0 {
-        return Field::Fault(2, at); // no multiple
+        return Field::Fault(WRONG_FIELD, at); // no multiple
     }
     Field::End(at + 3 + n)
 }
@@ -87,7 +90,7 @@ fn read_group(s: &[u8], at: usize) -> Field
     }
 }
 
-fn refusal(number: u8, place: usize) -> Layout
+fn refusal(number: u32, place: usize) -> Layout
     ensures { λ r. ⌜ r ≡ layoutOf (refused number place) ⌝ }
 {
     Layout {
@@ -118,7 +121,7 @@ fn read_groups(s: &[u8], end: usize) -> Layout
         }
     }
     Layout {
-        number: 0,
+        number: ACCEPTED,
         place: 0,
         end,
         groups,
@@ -129,8 +132,8 @@ fn read_groups(s: &[u8], end: usize) -> Layout
 pub fn read_fields(s: &[u8]) -> Layout
     ensures { λ r. ⌜ r ≡ layoutOf (readFile (now (s .entry))) ⌝ }
 {
-    if FILE_LIMIT < s.len() {
-        return refusal(4, 0);
+    if LONGEST_FILE < s.len() {
+        return refusal(TOO_LONG, 0);
     }
     let term = read_field(s, 0, 1, 1);
     match term {

@@ -15,6 +15,7 @@ use Rattle.calculus.specs.Types.{type}
 use Rattle.calculus.specs.Steps.{Step, Reason, Outcome, reached, refused, step}
 use Rattle.calculus.specs.Rules.{Group, State, own, copied, compare, Question, holds, same, Stop, waiting, waiting-copied, unbound, no-rule, Next, asks, stops, onePassNext}
 use Rattle.calculus.specs.Walks.{statesOf}
+use Rattle.code.specs.Refusals as refusals
 use Rattle.verdict.specs.Bounds.{stateFits, bodyFits}
 
 -- THE AGENDA
@@ -204,16 +205,16 @@ checkTerm t gs = finish (asked t) (begun gs)
 
 -- What the answer shows of a ground: its number and its place.
 unfoldable pub number : Ground → ℕ
-number (untyped i) = 7
-number (something-waits i n) = 8
-number (no-group i) = 9
-number (step-refused i s n r) = 10
-number (state-outgrown i) = 11
-number (type-outgrown i) = 11
-number (domain-outgrown i) = 11
-number (step-outgrown i s n) = 11
-number (bodies-differ i l r) = 12
-number (not-reached i) = 255
+number (untyped i) = refusals.noType
+number (something-waits i n) = refusals.stillWaiting
+number (no-group i) = refusals.noGroupLeft
+number (step-refused i s n r) = refusals.stepNotPossible
+number (state-outgrown i) = refusals.outgrown
+number (type-outgrown i) = refusals.outgrown
+number (domain-outgrown i) = refusals.outgrown
+number (step-outgrown i s n) = refusals.outgrown
+number (bodies-differ i l r) = refusals.bodiesDiffer
+number (not-reached i) = refusals.never
 
 unfoldable pub placeOf : Ground → ℕ
 placeOf (untyped i) = i

@@ -11,9 +11,6 @@ use Rattle.calls.proofs.examine_file.Tie as tie
 read-fields-requires : tie.Need-read-fields-requires
 read-fields-requires c κs = search needs
 
-cast-number : tie.Need-cast-number
-cast-number c = search needs
-
 slice-aggregate-result : tie.Need-slice-aggregate-result
 slice-aggregate-result c = search needs
 
@@ -40,7 +37,6 @@ examine-file-spec =
     tie.close
     (tie.spec
     read-fields-requires
-    cast-number
     slice-aggregate-result
     returns
     term-part-requires

@@ -20,10 +20,6 @@ use Rattle.fields.proofs.term_part.Reads as term-part-reads
 read-fields-requires : tie.Need-read-fields-requires
 read-fields-requires c κs = search needs
 
--- src/lib.rt:42:24
-cast-refusal : tie.Need-cast-refusal
-cast-refusal c = search needs
-
 -- src/lib.rt:42:9
 refusal-requires : tie.Need-refusal-requires
 refusal-requires c κs = search needs
@@ -69,7 +65,6 @@ check-spec =
     tie.close
     (tie.spec
     read-fields-requires
-    cast-refusal
     refusal-requires
     returns
     term-part-requires

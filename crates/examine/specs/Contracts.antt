@@ -1,16 +1,17 @@
--- What the functions of one turn of the walk answer, for a byte b that stands in d scopes.
+-- Inner contracts: what the functions of one turn of the pass answer, for a byte b that stands in d scopes.
 -- Assumes nothing.
 use Prim.Native.Nat.{ℕ, suc, _-_, _≤_, _<_}
 use mathlib.Core.Path.{_≡_}
 use mathlib.Core.List.{List}
 use lib.ListN.{getD}
 use Rattle.code.specs.Limits.{mostAbstractors}
+use Rattle.code.specs.Refusals.{accepted, beyondScope, tooManyInScope}
 
--- The number of the byte's own fault, or 0.
-pub data Tested (b d : ℕ) : ℕ → Type 0 where
-  passes : (b < 0xfe → b ≤ d) → (b ≡ 0xff → d < mostAbstractors) → Tested b d 0
-  index-beyond : b < 0xfe → d < b → Tested b d 5
-  too-deep : b ≡ 0xff → mostAbstractors ≤ d → Tested b d 6
+-- The number of the byte's own fault, if it has one.
+pub data ByteFault (b d : ℕ) : ℕ → Type 0 where
+  passes : (b < 0xfe → b ≤ d) → (b ≡ 0xff → d < mostAbstractors) → ByteFault b d accepted
+  index-beyond : b < 0xfe → d < b → ByteFault b d beyondScope
+  too-deep : b ≡ 0xff → mostAbstractors ≤ d → ByteFault b d tooManyInScope
 
 -- The degree r of the last terminal, once the byte is read; `last` before that. The entry at e of `degrees` is the degree of
 -- the U of the abstractor that itself stands in e scopes.
