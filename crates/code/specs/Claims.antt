@@ -1,4 +1,4 @@
--- What this crate promises of the byte code. The function of the same name (src/lib.rt) ensures each numbered record.
+-- What this crate promises of the byte code. A function of src/lib.rt ensures each numbered record.
 -- Assumes nothing.
 use Prim.Native.Nat.{ℕ, _+_, _%_, _≤_}
 use mathlib.Core.Path.{_≡_}

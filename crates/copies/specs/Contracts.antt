@@ -47,7 +47,7 @@ stopping number place s f = record { going = false; out = record { number = numb
 abbrev pub goingOn : Copying → FrameRecord → Turning
 goingOn s f = record { going = true; out = record { number = 0; place = 0; comparisons = s .comparisons; next = s .next }; state = s; frame = f }
 
--- A state within the limits, or not yet tested.
+-- A state that has passed the test of the limits.
 pub record Ready (file t w ws ys : List ℕ) (base : ℕ) (s : Copying) (f : FrameRecord) : Type 0 where
   pub frame : Frame
   pub ww : List Waiting
@@ -64,6 +64,7 @@ pub record AbsReady (file t w ws ys : List ℕ) (base : ℕ) (s : Copying) (f : 
   pub no-app : getD w (s .from) 0 ≡ 0xfe → ⊥
   pub ends : EndAt w (s .from + 1) m
 
+-- A state that is not tested yet.
 pub record Stated (file t w ws ys : List ℕ) (base : ℕ) (s : Copying) (f : FrameRecord) : Type 0 where
   pub frame : Frame
   pub ww : List Waiting

@@ -1,4 +1,4 @@
--- What this crate promises of examining. The function of the same name (src/lib.rt) ensures each numbered record.
+-- What this crate promises of examining. A function of src/lib.rt ensures each numbered record.
 -- Assumes nothing.
 use Prim.Native.Nat.{ℕ, zero, suc, _+_, _≤_, _<_}
 use mathlib.Core.Path.{_≡_}
