@@ -8,7 +8,7 @@ use Rattle.fields.specs.Fields.{GroupAt, Fields, readFile, termBytes, layoutOf}
 use Rattle.fields.specs.Fields as fields
 use Rattle.fields.specs.declared.Layout.{Layout}
 use Rattle.fields.proofs.Groups.{if-accepted, if-refused, accepts}
-use Rattle.examine.specs.Inspect.{Examined, examined, answerOf, termAnswer}
+use Rattle.examine.specs.Inspect.{Examined, examined, termAnswerOf, termAnswer}
 use Rattle.examine.specs.Inspect as term
 use Rattle.examine.specs.declared.TermAnswer.{TermAnswer}
 use Rattle.examine.proofs.Laws.{refused-answer, number-zero}
@@ -34,8 +34,8 @@ module _ (s : List ℕ) {r : Layout} (is : r ≡ layoutOf (readFile s)) where
     term-refused z = answered s (refused (a .number) (a .place)) (open-term ∙ ap (openTerm (r .end) _) (refused-answer (termBytes s (r .end)) term-is z .0)) (record { number-is = refl; place-is = refl; part-is = refl })
 
     pub term-accepted : a .number ≡ 0 → FileAnswered (a .number) (a .place) (termBytes s (r .end)) (fileAnswer s)
-    unfolding openTerm fileAnswerOf termAnswer answerOf
+    unfolding openTerm fileAnswerOf termAnswer termAnswerOf
     term-accepted z =
         let t = number-zero (termBytes s (r .end)) (ap (λ (x : TermAnswer). x .number) (sym term-is) ∙ z) in
-        let p : a .place ≡ 0 = ap (λ (x : TermAnswer). x .place) term-is ∙ ap (λ (x : Examined). answerOf x .place) (t .1) in
+        let p : a .place ≡ 0 = ap (λ (x : TermAnswer). x .place) term-is ∙ ap (λ (x : Examined). termAnswerOf x .place) (t .1) in
         answered s (opened (t .0) (r .end) (if-accepted s is zero .list)) (open-term ∙ ap (openTerm (r .end) _) (t .1)) (record { number-is = z; place-is = p; part-is = refl })

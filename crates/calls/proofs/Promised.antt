@@ -22,7 +22,7 @@ use Rattle.code.specs.Code.{Bytes, encode, decode}
 use Rattle.code.specs.Scope.{scope, Fits}
 use Rattle.code.proofs.RoundTrip.{length-encode, decode-encode}
 use Rattle.code.proofs.Scope.{closed-coded}
-use Rattle.examine.specs.Inspect.{Examined, refused, accepted, examined, termAnswer, answerOf}
+use Rattle.examine.specs.Inspect.{Examined, refused, accepted, examined, termAnswer, termAnswerOf}
 use Rattle.examine.proofs.Laws.{number-zero}
 use Rattle.parts.proofs.Stores.{take-sets-end}
 use Rattle.verdict.specs.Bounds.{bodyFits}
@@ -85,9 +85,9 @@ step-ways s out x = go (examined s) refl
 
 -- A refusal's number is not 0.
 refusal-number : (s : List ℕ) {n p : ℕ} → examined s ≡ refused n p → n ≡ 0 → ⊥
-unfolding termAnswer answerOf
+unfolding termAnswer termAnswerOf
 refusal-number s h z =
-    let x = number-zero s (ap (λ (y : Examined). answerOf y .number) h ∙ z) in
+    let x = number-zero s (ap (λ (y : Examined). termAnswerOf y .number) h ∙ z) in
     let y = x .1 in
     let w : _≡_ {A = ℕ} 0 1 = cc in
     omega arith

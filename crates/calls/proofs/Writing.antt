@@ -26,7 +26,7 @@ use Rattle.parts.specs.Parts.{Copied}
 use Rattle.parts.proofs.Standing.{copied-term}
 use Rattle.examine.specs.Inspect.{Examined, refused, accepted, examined, termAnswer}
 use Rattle.examine.specs.declared.TermAnswer.{TermAnswer}
-use Rattle.examine.specs.Claims.{Accepted}
+use Rattle.examine.specs.Claims.{WellFormed}
 use Rattle.examine.proofs.Laws.{examining-holds, number-zero}
 use Rattle.verdict.specs.Bounds.{bodyFits}
 use Rattle.types.specs.Typed.{TypedAs, Types}
@@ -43,7 +43,7 @@ use Rattle.calls.specs.Answers.{Written, nothing, answer, handed, writte
 pub accepted-term : (s : List ℕ) {r : TermAnswer} → r ≡ termAnswer s → r .number ≡ 0 → AcceptedTerm s
 accepted-term s q e = let p = number-zero s (rw q at e) in record { term = p .0; accepts = p .1 }
 
-module _ {s : List ℕ} {t : Term} (y : Bytes s) (a : Accepted s t) where
+module _ {s : List ℕ} {t : Term} (y : Bytes s) (a : WellFormed s t) where
   stands-whole : Stands s 0 (length s) t
   stands-whole =
       let h = encode-decode s t y (a .decodes) in
@@ -52,7 +52,7 @@ module _ {s : List ℕ} {t : Term} (y : Bytes s) (a : Accepted s t) where
   whole-size : length s ≡ size t
   whole-size = ap length (sym (encode-decode s t y (a .decodes) .bytes)) ∙ length-encode t
 
-pub accepts : {s : List ℕ} {t : Term} → Bytes s → examined s ≡ accepted t → Accepted s t
+pub accepts : {s : List ℕ} {t : Term} → Bytes s → examined s ≡ accepted t → WellFormed s t
 accepts {s} {t} y = examining-holds .accepts s t y .0
 
 pub length-accepted : {s : List ℕ} → Bytes s → AcceptedTerm s → length s ≤ longestTerm

@@ -24,7 +24,7 @@ use Rattle.verdict.specs.Verdict.{Progress, Run, passed, stopped, checkTerm}
 use Rattle.verdict.proofs.Promises.{passing}
 use Rattle.files.specs.File.{Opened, refused, opened, openTerm, openFields, openFile}
 use Rattle.files.specs.Check as files
-use Rattle.files.specs.Check.{groupsOf, leftOver, answerOf, checkOpened, checkFile}
+use Rattle.files.specs.Check.{groupsOf, leftOver, checkAnswerOf, checkOpened, checkFile}
 use Rattle.files.proofs.Answers.{term-bytes, says as answer-says}
 use Rattle.walk.specs.Contracts.{Answers, answer-passed, answer-stopped, Walkable, WalkAnswer}
 use Rattle.checker.specs.Answer.{CheckedAs, Checked}
@@ -86,7 +86,7 @@ module _ (s : List ℕ) {r : Layout} (is : r ≡ layoutOf (readFile s)) where
       unfolding openTerm
       open-file = open-term ∙ ap (openTerm (r .end) (layout .list)) (examining-holds .accepts (termBytes s (r .end)) (found .term) (term-bytes s (r .end) b) .1 (found .accepts))
 
-      run-as : {x : CheckAnswer} (y : Run) → checkTerm (found .term) (groupsOf (layout .list)) ≡ y → CheckedAs x (answerOf (degree ε (found .term)) (layout .list) y) → CheckedAs x (checkFile s)
+      run-as : {x : CheckAnswer} (y : Run) → checkTerm (found .term) (groupsOf (layout .list)) ≡ y → CheckedAs x (checkAnswerOf (degree ε (found .term)) (layout .list) y) → CheckedAs x (checkFile s)
       unfolding checkOpened
       run-as y h c = from-opened s open-file (rw h c)
 
@@ -96,7 +96,7 @@ module _ (s : List ℕ) {r : Layout} (is : r ≡ layoutOf (readFile s)) where
         says = walks .all (found .term) (layout .list) (walking .bytes) (found .accepts .closed) (found .accepts .shallow) (layout .is .groups)
 
         pub walk-stopped : (w .number ≡ 0 → ⊥) → CheckedAs (record { number = w .number; place = w .place; comparisons = w .comparisons; degree = a .degree }) (checkFile s)
-        unfolding answerOf
+        unfolding checkAnswerOf
         walk-stopped n = go (checkTerm (found .term) (groupsOf (layout .list))) refl says
           where
             go : (y : Run) → checkTerm (found .term) (groupsOf (layout .list)) ≡ y → Answers s w y → CheckedAs (record { number = w .number; place = w .place; comparisons = w .comparisons; degree = a .degree }) (checkFile s)
@@ -114,7 +114,7 @@ module _ (s : List ℕ) {r : Layout} (is : r ≡ layoutOf (readFile s)) where
             same-left (j .1) p (e ∙ k) .1
 
         pub groups-left : w .number ≡ 0 → w .next < length s → CheckedAs (record { number = 13; place = w .next; comparisons = w .comparisons; degree = a .degree }) (checkFile s)
-        unfolding answerOf leftOver
+        unfolding checkAnswerOf leftOver
         groups-left n l = go (checkTerm (found .term) (groupsOf (layout .list))) refl says
           where
             more-left : (gs : List GroupAt) → Groups s (w .next) gs → (c : ℕ) → c ≡ w .comparisons
@@ -127,7 +127,7 @@ module _ (s : List ℕ) {r : Layout} (is : r ≡ layoutOf (readFile s)) where
             go (stopped g q) h (answer-stopped e f p c) = absurd (f n)
 
         pub all-taken : w .number ≡ 0 → length s ≤ w .next → CheckedAs (record { number = 0; place = 0; comparisons = w .comparisons; degree = a .degree }) (checkFile s)
-        unfolding answerOf leftOver
+        unfolding checkAnswerOf leftOver
         all-taken n l = go (checkTerm (found .term) (groupsOf (layout .list))) refl says
           where
             go : (y : Run) → checkTerm (found .term) (groupsOf (layout .list)) ≡ y → Answers s w y → CheckedAs (record { number = 0; place = 0; comparisons = w .comparisons; degree = a .degree }) (checkFile s)

@@ -7,7 +7,7 @@ use native.Mathlib.Omega.{arith}
 use lib.ListN.{length, drop, length-append, length-map}
 use Rattle.calculus.specs.Steps.{Step}
 use Rattle.calculus.specs.Rules.{Group}
-use Rattle.fields.specs.Fields.{GroupAt, Groups, done, more, groupAt, spanAt, bodyEnd, stepsFrom, steps, word, GroupHere, Whole}
+use Rattle.fields.specs.Fields.{GroupAt, Groups, done, more, groupAt, spanAt, bodyEnd, stepsFrom, readSteps, word, GroupHere, Whole}
 use Rattle.files.specs.Check.{groupsOf}
 
 length-steps : (n : ℕ) (s : List ℕ) (at : ℕ) → length (stepsFrom n s at) ≡ n
@@ -20,7 +20,7 @@ bytesOf : List Group → ℕ
 bytesOf [] = 0
 bytesOf (g ∷ gs) = 6 + 3 * length (g .left) + 3 * length (g .right) + bytesOf gs
 
-field-bytes : (tag : ℕ) (s : List ℕ) (at : ℕ) → Whole tag 3 s at → bodyEnd s at ≡ at + 3 + 3 * length (steps s (at + 3) (bodyEnd s at))
+field-bytes : (tag : ℕ) (s : List ℕ) (at : ℕ) → Whole tag 3 s at → bodyEnd s at ≡ at + 3 + 3 * length (readSteps s (at + 3) (bodyEnd s at))
 field-bytes tag s at w = omega (arith, length-steps ((bodyEnd s at - (at + 3)) / 3) s (at + 3), w .multiple)
 
 groups-end : {s : List ℕ} {at : ℕ} {gs : List GroupAt} → Groups s at gs → at + bytesOf (groupsOf gs) ≡ length s

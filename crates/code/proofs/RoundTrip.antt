@@ -12,7 +12,7 @@ use lib.Dec.{eqb, lit<}
 use borrow.Author.Tests.{ne-eqb, eqb-true, eqb-false}
 use Rattle.calculus.specs.Terms.{Term, tau, var, app, abs, size, lift}
 use Rattle.code.specs.Code.{Symbol, symbol-tau, symbol-var, symbol-app, symbol-abs, symbol, Bytes, encode, Coded, coded-tau, coded-var, coded-app, coded-abs, takeTwo, readByte, terms, single, decode}
-use Rattle.code.specs.Claims.{Holds}
+use Rattle.code.specs.Claims.{Encodes}
 
 -- ---- A symbol is a byte.
 pub length-encode : (t : Term) → length (encode t) ≡ size t
@@ -133,11 +133,11 @@ reads (b ∷ s) h = go (terms s) (reads s (λ i. h (suc i)))
     go o unread = unread
     go o (read {ts} e f) = read-byte (h 0) (is b) s ts e f
 
-pub encode-decode : (s : List ℕ) (t : Term) → Bytes s → decode s ≡ some t → Holds s t
+pub encode-decode : (s : List ℕ) (t : Term) → Bytes s → decode s ≡ some t → Encodes s t
 unfolding decode encodeAll bind single
 encode-decode s t h e = go (terms s) (reads s h) e
   where
-    go : (o : Option (List Term)) → Read s o → bind o single ≡ some t → Holds s t
+    go : (o : Option (List Term)) → Read s o → bind o single ≡ some t → Encodes s t
     go o unread e = let z : _≡_ {A = ℕ} 0 1 = cc in absurd (omega arith)
     go o (read r no-terms) e = let z : _≡_ {A = ℕ} 0 1 = cc in absurd (omega arith)
     go o (read r (more f (more g fs))) e = let z : _≡_ {A = ℕ} 0 1 = cc in absurd (omega arith)

@@ -11,14 +11,14 @@ use Rattle.calculus.specs.Terms.{Term, tau, var, app, abs, size}
 use Rattle.code.specs.Code.{symbol, Bytes, encode, Coded, decode, delta, balanceAfter, termEnd}
 
 -- s holds the bytes of t and nothing else.
-pub record Holds (s : List ℕ) (t : Term) : Type 0 where
+pub record Encodes (s : List ℕ) (t : Term) : Type 0 where
   pub bytes : encode t ≡ s
   pub coded : Coded t
 
 -- 1. Decoding and encoding undo each other.
 pub record Inverse : Type 0 where
   pub decode-encode : {t : Term} → Coded t → decode (encode t) ≡ some t
-  pub encode-decode : (s : List ℕ) (t : Term) → Bytes s → decode s ≡ some t → Holds s t
+  pub encode-decode : (s : List ℕ) (t : Term) → Bytes s → decode s ≡ some t → Encodes s t
   pub encode-bytes : {t : Term} → Coded t → Bytes (encode t)
 
 -- 2. A symbol is a byte, so that the size is the byte count; and it is odd.

@@ -9,8 +9,8 @@ use lib.Dec.{eqb}
 use lib.IntN.{ℤ, pos, negsuc}
 use lib.ListN.{getD, drop}
 use Rattle.calculus.specs.Terms.{Term, tau, var, app, abs}
-use Rattle.code.specs.declared.End.{End}
-use Rattle.code.specs.declared.End.the-variants.{At, Never}
+use Rattle.code.specs.declared.TermEnd.{TermEnd}
+use Rattle.code.specs.declared.TermEnd.the-variants.{At, Never}
 
 -- What a byte stands for: 00 is τ, fe an applicator, ff an abstractor, any other byte a variable.
 pub data Symbol : Type 0 where
@@ -100,6 +100,6 @@ unfolding firstZero
 termEnd s from = firstZero (drop from s) 1 from
 
 -- The answer of the function `term_end`, as a place or none.
-abbrev pub endOf : End → Option ℕ
+abbrev pub endOf : TermEnd → Option ℕ
 endOf (At e) = some e
 endOf Never = none

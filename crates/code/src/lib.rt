@@ -11,7 +11,9 @@ ghost use Rattle.code.specs.Scope.{Scopes};
 ghost use Rattle.code.specs.Claims.{Inverse, Sizes, Balance, Examples};
 
 // Where a term ends: the place past its last byte, or never, where the bytes end before the term does or it starts past them.
-pub enum End {
+pub type Deltas = [i32; 256];
+
+pub enum TermEnd {
     At(usize),
     Never,
 }
@@ -277,45 +279,45 @@ const TABLE: [i32; 256] = [
 ];
 
 // The table, whose rule is tested once over all of its entries. A caller copies it once before its loop, and lends that copy.
-pub fn table() -> [i32; 256]
+pub fn table() -> Deltas
     ensures { λ r. ⌜ Tabled r ⌝ }
 {
     TABLE
 }
 
 // What the byte b does to the balance.
-pub fn delta_of(t: &[i32; 256], b: u8) -> i32
-    requires { ⌜ Tabled (now t) ⌝ }
+pub fn delta_of(deltas: &Deltas, b: u8) -> i32
+    requires { ⌜ Tabled (now deltas) ⌝ }
     ensures { λ r. ⌜ r ≡ delta b ⌝ }
 {
     let i = b as usize;
-    t[i]
+    deltas[i]
 }
 
 // Where the term of s that starts at `from` ends: the balance starts at +1 and the term ends where it first reaches 0.
-pub fn term_end_by(t: &[i32; 256], s: &[u8], from: usize) -> End
-    requires { ⌜ Tabled (now t) × (length (now s) ≤ longestFile) ⌝ }
+pub fn term_end_by(deltas: &Deltas, s: &[u8], from: usize) -> TermEnd
+    requires { ⌜ Tabled (now deltas) × (length (now s) ≤ longestFile) ⌝ }
     ensures { λ r. ⌜ endOf r ≡ termEnd (now (s .entry)) from ⌝ }
 {
     let mut balance: i32 = 1;
     let mut i = from;
     while i < s.len() {
-        balance += delta_of(t, s[i]);
+        balance += delta_of(deltas, s[i]);
         if balance == 0 {
-            return End::At(i + 1);
+            return TermEnd::At(i + 1);
         }
         i += 1;
     }
-    End::Never
+    TermEnd::Never
 }
 
 // The same, with a table of its own.
-pub fn term_end(s: &[u8], from: usize) -> End
+pub fn term_end(s: &[u8], from: usize) -> TermEnd
     requires { ⌜ length (now s) ≤ longestFile ⌝ }
     ensures { λ r. ⌜ endOf r ≡ termEnd (now (s .entry)) from ⌝ }
 {
-    let t = table();
-    term_end_by(&t, s, from)
+    let deltas = table();
+    term_end_by(&deltas, s, from)
 }
 
 pub fn inverse()

@@ -15,7 +15,7 @@ use Rattle.code.specs.Claims.{Stands}
 use Rattle.code.specs.Scope.{Fits}
 use Rattle.code.proofs.Parts.{stands-unique}
 use Rattle.fields.specs.declared.GroupSpan.{GroupSpan}
-use Rattle.fields.specs.Fields.{GroupAt, Groups, SpanOf, First, spanAt}
+use Rattle.fields.specs.Fields.{GroupAt, Groups, GroupParts, First, spanAt}
 use Rattle.fields.proofs.Groups.{none-left, some-left, span-of}
 use Rattle.frames.specs.declared.FrameRecord.{FrameRecord}
 use Rattle.frames.specs.Stored.{Stored}
@@ -103,7 +103,7 @@ module _ {file w : List ℕ} {at : ℕ} {f : FrameRecord} {m e : ℕ} (x : Compa
   pub domain-loads : {b : List ℕ} → PartFits w (f .len) (m + 1) e true → length b ≡ longestTerm → Loadable w b (m + 1) e
   domain-loads y l = record { part = domain-part; buffer = l; short = omega (arith, x .domain-stands .place, fits-limits (x .frame) (x .domain) (domain-fits (x .stored) y (x .domain-stands)) .0) }
 
-  pub two-sides : {g : GroupSpan} {a b : List ℕ} {n k : ℕ} → SpanOf file at g → SomeBody w f a n → PartFits w (f .len) (m + 1) e true → Loaded w b (m + 1) e k → TwoSides file g w f a n b k
+  pub two-sides : {g : GroupSpan} {a b : List ℕ} {n k : ℕ} → GroupParts file at g → SomeBody w f a n → PartFits w (f .len) (m + 1) e true → Loaded w b (m + 1) e k → TwoSides file g w f a n b k
   two-sides o s y l = record {
     left-steps = o .left-steps;
     right-steps = o .right-steps;
@@ -121,7 +121,7 @@ module _ {file w : List ℕ} {at : ℕ} {f : FrameRecord} {m e : ℕ} (x : Compa
     unfolding number
     typed-large-domain l y = record { all = λ R T U gs t i u h place p q. let o = first-group l h in says-stopped (next-group R place U p T (q ∙ ap (map (λ g. g .group)) (o .all)) ∙ large-domain R place U p T _ _ i (domain-fits (t .stored) y u)) refl (lit< tt) }
 
-    pub typed-sides : {g : GroupSpan} {b : List ℕ} {k r : ℕ} → SpanOf file at g → PartFits w (f .len) (m + 1) e true → Loaded w b (m + 1) e k → Sides file g w f a n b k r → ComparesType file w at f m e a n (record { number = r; next = g .next })
+    pub typed-sides : {g : GroupSpan} {b : List ℕ} {k r : ℕ} → GroupParts file at g → PartFits w (f .len) (m + 1) e true → Loaded w b (m + 1) e k → Sides file g w f a n b k r → ComparesType file w at f m e a n (record { number = r; next = g .next })
     typed-sides {g} {b} {k} {r} o y l v = record { all = λ R T U gs t i u h place p q. go R T U gs t i u (o .first gs h) place p q }
       where
         go : (R : Frame) (T U : Term) (gs : List GroupAt) → Body w f a n R T → bodyFits R T ≡ true → Stands w (suc m) e U → First file at g gs → (place : ℕ) (p : Progress) → p .left ≡ map (λ h. h .group) gs → CompareSays file at (record { number = r; next = g .next }) p (withGroup R place T U (p .left) p)

@@ -10,7 +10,7 @@ use native.Mathlib.Omega.{arith}
 use Rattle.calculus.specs.Terms.{Term}
 use Rattle.calculus.specs.Frames.{Frame}
 use Rattle.calculus.specs.Steps.{Step, Reason, step, reached, refused}
-use Rattle.fields.specs.Fields.{stepOf, steps, StepRange}
+use Rattle.fields.specs.Fields.{readStep, readSteps, StepRange}
 use Rattle.fields.proofs.Groups.{no-step, next-step}
 use Rattle.frames.specs.declared.FrameRecord.{FrameRecord}
 use Rattle.frames.specs.Body.{Body, SomeBody}
@@ -41,7 +41,7 @@ pub record Carried (file : List ℕ) (from to at : ℕ) (w : List ℕ) (f : Fram
   pub term : Term
   pub count : ℕ
   pub body : Body w f b n R term
-  pub same : replayFrom R 0 (steps file from to) t ≡ replayFrom R count (steps file at to) term
+  pub same : replayFrom R 0 (readSteps file from to) t ≡ replayFrom R count (readSteps file at to) term
 
 -- So for each body that the buffer b₀ held in n₀ bytes.
 pub record Replaying (file : List ℕ) (from to : ℕ) (w : List ℕ) (f : FrameRecord) (b₀ : List ℕ) (n₀ : ℕ) (b : List ℕ) (at n : ℕ) : Type 0 where
@@ -60,10 +60,10 @@ module _ {file : List ℕ} {from to : ℕ} {w : List ℕ} {f : FrameRecord} {b�
       ends : at ≡ to
       ends = omega (arith, v .range .ordered)
 
-  module _ {s : Step} {b′ : List ℕ} {x : Stepped} (l : at < to) (q : s ≡ stepOf file at) (a : Answers w f b b′ n s x) where
+  module _ {s : Step} {b′ : List ℕ} {x : Stepped} (l : at < to) (q : s ≡ readStep file at) (a : Answers w f b b′ n s x) where
     -- The replay from this step on.
-    onward : {R : Frame} {t : Term} (c : Carried file from to at w f b n R t) → replayFrom R 0 (steps file from to) t ≡ replayFrom R (c .count) (s ∷ steps file (at + 3) to) (c .term)
-    onward {R} c = c .same ∙ ap (λ ss. replayFrom R (c .count) ss (c .term)) (next-step (v .range) l .0 ∙ ap (_∷ steps file (at + 3) to) (sym q))
+    onward : {R : Frame} {t : Term} (c : Carried file from to at w f b n R t) → replayFrom R 0 (readSteps file from to) t ≡ replayFrom R (c .count) (s ∷ readSteps file (at + 3) to) (c .term)
+    onward {R} c = c .same ∙ ap (λ ss. replayFrom R (c .count) ss (c .term)) (next-step (v .range) l .0 ∙ ap (_∷ readSteps file (at + 3) to) (sym q))
 
     pub replaying-refused : x ≡ Refused → Replays file from to w f b₀ b′ n₀ (record { number = 10; len = 0 })
     replaying-refused e = record { buffer = kept (subst (SteppedAs w f b b′ (v .some .frame) s (v .some .term)) e (a .all (v .some .frame) (v .some .term) (v .some .body))); all = λ R t h. let c = v .all R t h in go c (subst (SteppedAs w f b b′ R s (c .term)) e (a .all R (c .term) (c .body))) }
@@ -71,8 +71,8 @@ module _ {file : List ℕ} {from to : ℕ} {w : List ℕ} {f : FrameRecord} {b�
         kept : {R : Frame} {u : Term} → SteppedAs w f b b′ R s u Refused → length b′ ≡ longestTerm
         kept (step-refused d z) = ap length z ∙ v .some .body .buffer
 
-        go : {R : Frame} {t : Term} (c : Carried file from to at w f b n R t) → SteppedAs w f b b′ R s (c .term) Refused → ReplayedAs w f b′ R (record { number = 10; len = 0 }) (replayFrom R 0 (steps file from to) t)
-        go {R} c (step-refused d z) = subst (ReplayedAs w f b′ R _) (sym (onward c ∙ replay-refused R (c .count) s (steps file (at + 3) to) (c .term) d)) (as-refused refl)
+        go : {R : Frame} {t : Term} (c : Carried file from to at w f b n R t) → SteppedAs w f b b′ R s (c .term) Refused → ReplayedAs w f b′ R (record { number = 10; len = 0 }) (replayFrom R 0 (readSteps file from to) t)
+        go {R} c (step-refused d z) = subst (ReplayedAs w f b′ R _) (sym (onward c ∙ replay-refused R (c .count) s (readSteps file (at + 3) to) (c .term) d)) (as-refused refl)
 
     pub replaying-outgrown : x ≡ Outgrown → Replays file from to w f b₀ b′ n₀ (record { number = 11; len = 0 })
     replaying-outgrown e = record { buffer = kept (subst (SteppedAs w f b b′ (v .some .frame) s (v .some .term)) e (a .all (v .some .frame) (v .some .term) (v .some .body))); all = λ R t h. let c = v .all R t h in go c (subst (SteppedAs w f b b′ R s (c .term)) e (a .all R (c .term) (c .body))) }
@@ -80,8 +80,8 @@ module _ {file : List ℕ} {from to : ℕ} {w : List ℕ} {f : FrameRecord} {b�
         kept : {R : Frame} {u : Term} → SteppedAs w f b b′ R s u Outgrown → length b′ ≡ longestTerm
         kept (step-outgrown d g z) = ap length z ∙ v .some .body .buffer
 
-        go : {R : Frame} {t : Term} (c : Carried file from to at w f b n R t) → SteppedAs w f b b′ R s (c .term) Outgrown → ReplayedAs w f b′ R (record { number = 11; len = 0 }) (replayFrom R 0 (steps file from to) t)
-        go {R} c (step-outgrown d g z) = subst (ReplayedAs w f b′ R _) (sym (onward c ∙ replay-outgrown R (c .count) s (steps file (at + 3) to) (c .term) d g)) (as-outgrown refl)
+        go : {R : Frame} {t : Term} (c : Carried file from to at w f b n R t) → SteppedAs w f b b′ R s (c .term) Outgrown → ReplayedAs w f b′ R (record { number = 11; len = 0 }) (replayFrom R 0 (readSteps file from to) t)
+        go {R} c (step-outgrown d g z) = subst (ReplayedAs w f b′ R _) (sym (onward c ∙ replay-outgrown R (c .count) s (readSteps file (at + 3) to) (c .term) d g)) (as-outgrown refl)
 
     pub replaying-next : {m : ℕ} → x ≡ Length m → Replaying file from to w f b₀ n₀ b′ (at + 3) m
     replaying-next {m} e = record { range = next-step (v .range) l .1; some = first (v .some); all = λ R t h. go (v .all R t h) (told (v .all R t h .body)) }
@@ -90,7 +90,7 @@ module _ {file : List ℕ} {from to : ℕ} {w : List ℕ} {f : FrameRecord} {b�
         told {R} {u} h = subst (SteppedAs w f b b′ R s u) e (a .all R u h)
 
         go : {R : Frame} {t : Term} (c : Carried file from to at w f b n R t) → SteppedAs w f b b′ R s (c .term) (Length m) → Carried file from to (at + 3) w f b′ m R t
-        go {R} c (as-length {u = u} d g z h) = record { term = u; count = suc (c .count); body = h; same = onward c ∙ replay-reached R (c .count) s (steps file (at + 3) to) (c .term) d g }
+        go {R} c (as-length {u = u} d g z h) = record { term = u; count = suc (c .count); body = h; same = onward c ∙ replay-reached R (c .count) s (readSteps file (at + 3) to) (c .term) d g }
 
         first : SomeBody w f b n → SomeBody w f b′ m
         first y = held (told (y .body))

@@ -10,7 +10,7 @@ use Rattle.calculus.specs.Frames.{Frame, depth}
 use Rattle.calculus.specs.Steps.{Reason}
 use Rattle.code.specs.Limits.{longestTerm, longestState}
 use Rattle.code.specs.Claims.{Stands}
-use Rattle.fields.specs.Fields.{steps}
+use Rattle.fields.specs.Fields.{readSteps}
 use Rattle.frames.specs.declared.FrameRecord.{FrameRecord}
 use Rattle.frames.specs.Body.{Body}
 use Rattle.verdict.specs.Bounds.{bodyFits}
@@ -47,4 +47,4 @@ pub data ReplayedAs (w : List ℕ) (f : FrameRecord) (b : List ℕ) (R : Frame) 
 -- The steps that stand in the file from a place up to another, replayed on the body of n bytes in b; b′ is the buffer after.
 pub record Replays (file : List ℕ) (from to : ℕ) (w : List ℕ) (f : FrameRecord) (b b′ : List ℕ) (n : ℕ) (r : Replayed) : Type 0 where
   pub buffer : length b′ ≡ longestTerm
-  pub all : (R : Frame) (t : Term) → Body w f b n R t → ReplayedAs w f b′ R r (replayFrom R 0 (steps file from to) t)
+  pub all : (R : Frame) (t : Term) → Body w f b n R t → ReplayedAs w f b′ R r (replayFrom R 0 (readSteps file from to) t)

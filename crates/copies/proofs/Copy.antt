@@ -19,23 +19,23 @@ use Rattle.code.specs.Claims.{Stands}
 use Rattle.code.specs.Scope.{scope}
 use Rattle.code.proofs.Parts.{stands-start, stands-end, stands-unique}
 use Rattle.code.proofs.Scope.{scope-lift}
-use Rattle.frames.specs.Stored.{Stored, Holding, Agree, EndAt, Looked, SpanOf, Standing}
+use Rattle.frames.specs.Stored.{Stored, Holding, Agree, EndAt, Looked, EntryParts, SomeTermFrom}
 use Rattle.frames.specs.declared.FrameRecord.{FrameRecord}
 use Rattle.frames.specs.declared.Span.{Span}
 use Rattle.frames.proofs.Entries.{agree-refl}
 use Rattle.frames.proofs.Laws.{stored-depth, span-domain}
-use Rattle.indices.specs.Passes.{Measured, Standing as Measurable}
+use Rattle.indices.specs.Passes.{Measured, ShortTerm}
 use Rattle.indices.proofs.Walk.{scope-size}
 use Rattle.verdict.specs.Bounds.{waitingSize, waitingScope, stateFits}
 use Rattle.verdict.specs.Verdict.{number, placeOf, Ground, something-waits, not-reached, state-outgrown, Progress, Run, passed, stopped, andThen, turned}
-use Rattle.recursion.specs.Recursion.{Waiting, terms, liftWaiting, compareNext, tested, atTau, atVar, copiedRule, enough}
+use Rattle.recursion.specs.Recursion.{Waiting, termsOf, liftWaiting, compareNext, tested, atTau, atVar, copiedRule, enough}
 use Rattle.recursion.proofs.Same.{terms-lift}
-use Rattle.waiting.specs.Waiting.{Part, queueLength, slotOf, Waits, Queue, queue-none, queue-one, within, SmallSlot, Noted, Figured, Fitted}
+use Rattle.waiting.specs.Waiting.{Part, queueLength, slotOf, Waits, Queue, queue-none, queue-one, within, SmallSlot, Noted, WaitingExtent, Fitted}
 use Rattle.copies.specs.State.{Sound, sound-empty, sound-single, sound-pair, Reached, Says, says-passed, says-stopped, says-never, copiedNow, Known, exact, fitting, ScopeKnown, CopyAt, Room}
-use Rattle.copies.specs.Contracts.{Turning, stopping, goingOn, Ready, Stated, Turned, turn-stops, turn-goes, Ruled, Turns}
+use Rattle.copies.specs.Contracts.{TurnResult, stopping, goingOn, CopyReady, Stated, Turned, turn-stops, turn-goes, Ruled, Turns}
 use Rattle.copies.specs.declared.Walked.{Walked}
 use Rattle.waiting.specs.declared.Slot.{Slot}
-use Rattle.waiting.specs.declared.Figures.{Figures}
+use Rattle.waiting.specs.declared.Extent.{Extent}
 use Rattle.copies.specs.declared.Copying.{Copying}
 use Rattle.waiting.proofs.Texts.{positive, text-tau, Variable, text-var, Two, text-app, text-abs, text-in, text-inner}
 use Rattle.waiting.proofs.Queues.{queue-empty, queue-base, queue-length, Last, queue-last, queue-keep}
@@ -58,7 +58,7 @@ sound-short (suc zero) e (sound-pair s k u) h = rw (← some-inj h) (u .short)
 sound-short (suc (suc k)) e (sound-pair s l u) h = sound-short (suc k) e s h
 
 -- ---- What is known of a scope.
-module _ {w : List ℕ} {p e d : ℕ} (g : Measurable w p e) where
+module _ {w : List ℕ} {p e d : ℕ} (g : ShortTerm w p e) where
   pub size-fits : d + (e - p) ≤ 253 → ScopeKnown w p e d 0
   size-fits l = record { known = λ U h n. fitting refl (omega (arith, scope-lift n 0 U, scope-size U, h .place)); bound = omega arith }
 
@@ -90,20 +90,20 @@ module _ {file t w ws ys : List ℕ} {base : ℕ} {s : Copying} {f : FrameRecord
     unfolding lift
     seen-tau h = z .seen ∙ ap (lift (s .shift) (s .cut)) (text-tau (z .stands) h)
 
-    pub tau-never : (place m : ℕ) → getD w (s .from) 0 ≡ 0 → 0 < s .ytop → Turned file t w ws ys base place (stopping 255 place s f) m (copiedRule (copiedNow place) place R W (terms Q) B (turned 1 p))
-    unfolding copiedRule terms
+    pub tau-never : (place m : ℕ) → getD w (s .from) 0 ≡ 0 → 0 < s .ytop → Turned file t w ws ys base place (stopping 255 place s f) m (copiedRule (copiedNow place) place R W (termsOf Q) B (turned 1 p))
+    unfolding copiedRule termsOf
     tau-never place m h y = let l = queue-last (z .copied) (λ e. omega arith) in rw (seen-tau h, l .is) (turn-stops refl (says-never refl))
 
     module _ (place m : ℕ) (h : getD w (s .from) 0 ≡ 0) (y : s .ytop ≤ 0) where
       no-yet : Q ≡ []
       no-yet = queue-empty (z .copied) (omega arith)
 
-      pub tau-passes : s .top ≡ base → Turned file t w ws ys base place (stopping 0 0 s f) m (copiedRule (copiedNow place) place R W (terms Q) B (turned 1 p))
-      unfolding copiedRule terms atTau
+      pub tau-passes : s .top ≡ base → Turned file t w ws ys base place (stopping 0 0 s f) m (copiedRule (copiedNow place) place R W (termsOf Q) B (turned 1 p))
+      unfolding copiedRule termsOf atTau
       tau-passes e = rw (seen-tau h, no-yet, queue-empty (z .waits) e) (turn-stops refl (says-passed refl (reached-turned 1 (z .reached))))
 
-      pub tau-waits : {v : Slot} → (s .top ≡ base → ⊥) → v ≡ slotOf ws (s .top - 1) → Turned file t w ws ys base place (stopping 8 (v .place) s f) m (copiedRule (copiedNow place) place R W (terms Q) B (turned 1 p))
-      unfolding copiedRule terms atTau number placeOf
+      pub tau-waits : {v : Slot} → (s .top ≡ base → ⊥) → v ≡ slotOf ws (s .top - 1) → Turned file t w ws ys base place (stopping 8 (v .place) s f) m (copiedRule (copiedNow place) place R W (termsOf Q) B (turned 1 p))
+      unfolding copiedRule termsOf atTau number placeOf
       tau-waits {v} e q =
           let l = queue-last (z .waits) e in
           rw (seen-tau h, no-yet, l .is) (turn-stops refl (stop-says (something-waits (l .last .place) (length (l .last ∷ l .others))) 8 (v .place) refl (λ o. omega arith) (ap (λ u. u .place) q ∙ sym (l .slot .is-place))))
@@ -135,12 +135,12 @@ module _ {file t w ws ys : List ℕ} {base : ℕ} {s : Copying} {f : FrameRecord
         short : size (domain meant) ≤ longestTerm
         short = sound-short k meant (z .sound) means
 
-        pub measurable : Measurable w (q .domain) (q .end)
+        pub measurable : ShortTerm w (q .domain) (q .end)
         measurable = record { term = domain meant; stands = here; short = omega (arith, here .place, short) }
 
         pub var-goes : {n : ℕ} (place : ℕ) → ScopeKnown w (q .domain) (q .end) (f .len) n
             → Turned file t w ws ys base place (goingOn (record { top = s .top; ytop = s .ytop; from = q .domain; to = q .end; shift = k; cut = 0; scope = n; next = s .next; comparisons = s .comparisons }) f) (enough R B)
-            (copiedRule (copiedNow place) place R W (terms Q) B (turned 1 p))
+            (copiedRule (copiedNow place) place R W (termsOf Q) B (turned 1 p))
         unfolding copiedRule atVar
         var-goes {n} place m = rw (seen-var, means) (turn-goes refl (record {
           stored = z .stored;
@@ -187,7 +187,7 @@ module _ {file t w ws ys : List ℕ} {base : ℕ} {s : Copying} {f : FrameRecord
       unfolding scope
       scopes = omega (arith, ap scope seen-app, scope-lift (s .shift) (s .cut) (two-app .one), scope-lift (s .shift) (s .cut) (two-app .two))
 
-      pub app-standing : Standing w (s .from + 1)
+      pub app-standing : SomeTermFrom w (s .from + 1)
       app-standing = record { work = z .stored .work; end = two-app .mid; term = two-app .one; stands = two-app .first }
 
       module _ {m : ℕ} (x : EndAt w (s .from + 1) m) where
@@ -200,17 +200,17 @@ module _ {file t w ws ys : List ℕ} {base : ℕ} {s : Copying} {f : FrameRecord
         second : Stands w m (s .to) (two-app .two)
         second = rw mid (two-app .second)
 
-        pub app-bounds : (s .from + 1 < m) × (m < s .to) × (s .to ≤ 8192)
+        pub app-bounds : (s .from + 1 < m) × (m < s .to) × (s .to ≤ longestState)
         app-bounds = (stands-start first, stands-start second, omega (arith, z .inside, z .stored .inside))
 
-        pub app-measurable : Measurable w (s .from + 1) m
+        pub app-measurable : ShortTerm w (s .from + 1) m
         app-measurable = record { term = two-app .one; stands = first; short = omega (arith, first .place, sizes, z .short) }
 
         pub app-ytop : s .ytop < 4096
         app-ytop = omega (arith, queue-length (z .copied), o .fits, positive B, z .ytops)
 
-        module _ {y : Figures} {n : ℕ} {u : Bool} (g : Figured ys 0 (s .ytop) y) (c : Measured w (s .from + 1) m n u) where
-          size-total : y .size + (m - s .from) ≡ suc (size (lift (s .shift) (s .cut) (two-app .one))) + waitingSize (terms Q)
+        module _ {y : Extent} {n : ℕ} {u : Bool} (g : WaitingExtent ys 0 (s .ytop) y) (c : Measured w (s .from + 1) m n u) where
+          size-total : y .size + (m - s .from) ≡ suc (size (lift (s .shift) (s .cut) (two-app .one))) + waitingSize (termsOf Q)
           size-total = omega (arith, g .size-is w (f .len) (f .end) Q (z .copied), first .place, size-lift (s .shift) (s .cut) (two-app .one))
 
           pub app-small : {b : ℕ} → b ≡ max n (y .scope) → SmallSlot (record { size = y .size + (m - s .from); scope = b; depth = f .len; place = s .from; end = m; shift = s .shift; cut = s .cut })
@@ -226,8 +226,8 @@ module _ {file t w ws ys : List ℕ} {base : ℕ} {s : Copying} {f : FrameRecord
 
           pub app-goes : {b : ℕ} {ys′ : List ℕ} (place : ℕ) → b ≡ max n (y .scope) → Noted ys ys′ (s .ytop) (record { size = y .size + (m - s .from); scope = b; depth = f .len; place = s .from; end = m; shift = s .shift; cut = s .cut })
               → Turned file t w ws ys′ base place (goingOn (record { top = s .top; ytop = s .ytop + 1; from = m; to = s .to; shift = s .shift; cut = s .cut; scope = 0; next = s .next; comparisons = s .comparisons }) f) (enough R B)
-              (copiedRule (copiedNow place) place R W (terms Q) B (turned 1 p))
-          unfolding copiedRule terms waitingSize waitingScope
+              (copiedRule (copiedNow place) place R W (termsOf Q) B (turned 1 p))
+          unfolding copiedRule termsOf waitingSize waitingScope
           app-goes {b} {ys′} place e d = rw seen-app (turn-goes {Q = record { place = s .from; term = lift (s .shift) (s .cut) (two-app .one) } ∷ Q} refl (record {
             stored = z .stored;
             sound = z .sound;
@@ -263,14 +263,14 @@ module _ {file t w ws ys : List ℕ} {base : ℕ} {s : Copying} {f : FrameRecord
           }) (fewer-app R (lift (s .shift) (s .cut) (two-app .one)) (lift (s .shift) (s .cut) (two-app .two))) refl)
 
   -- the arrays are as they were
-  module _ (g : Ready file t w ws ys base s f) where
-    pub still : {place : ℕ} {r : Turning} → f .end ≤ r .frame .end
-        → ((R : Frame) (W Q : List Waiting) (B : Term) (p : Progress) → CopyAt file t w ws ys base s f R W Q B p → Room (f .len) (f .end) W Q B → Turned file t w ws ys base place r (enough R B) (copiedRule (copiedNow place) place R W (terms Q) B (turned 1 p)))
+  module _ (g : CopyReady file t w ws ys base s f) where
+    pub still : {place : ℕ} {r : TurnResult} → f .end ≤ r .frame .end
+        → ((R : Frame) (W Q : List Waiting) (B : Term) (p : Progress) → CopyAt file t w ws ys base s f R W Q B p → Room (f .len) (f .end) W Q B → Turned file t w ws ys base place r (enough R B) (copiedRule (copiedNow place) place R W (termsOf Q) B (turned 1 p)))
         → Ruled file t w w ws ys ys base place s f r
     still h a = record { work = g .at .stored .work; below = agree-refl; grown = h; ylong = g .at .ylong; all = a }
 
     -- one more of Y is noted
     pub noted-ruled : {place j : ℕ} {r : Copying} {ys′ : List ℕ} {v : Slot} → Noted ys ys′ j v
-        → ((R : Frame) (W Q : List Waiting) (B : Term) (p : Progress) → CopyAt file t w ws ys base s f R W Q B p → Room (f .len) (f .end) W Q B → Turned file t w ws ys′ base place (goingOn r f) (enough R B) (copiedRule (copiedNow place) place R W (terms Q) B (turned 1 p)))
+        → ((R : Frame) (W Q : List Waiting) (B : Term) (p : Progress) → CopyAt file t w ws ys base s f R W Q B p → Room (f .len) (f .end) W Q B → Turned file t w ws ys′ base place (goingOn r f) (enough R B) (copiedRule (copiedNow place) place R W (termsOf Q) B (turned 1 p)))
         → Ruled file t w w ws ys ys′ base place s f (goingOn r f)
     noted-ruled d a = record { work = g .at .stored .work; below = agree-refl; grown = omega arith; ylong = d .same-length ∙ g .at .ylong; all = a }

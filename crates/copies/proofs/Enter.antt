@@ -19,17 +19,17 @@ use Rattle.code.specs.Scope.{scope}
 use Rattle.code.proofs.Parts.{stands-start, stands-end}
 use Rattle.code.proofs.Scope.{scope-lift, closed-coded}
 use Rattle.fields.proofs.Groups.{room as room-left}
-use Rattle.frames.specs.Stored.{Stored, Agree, EndAt, Standing, EntryBytes, bytes-single, bytes-pair, pushed}
+use Rattle.frames.specs.Stored.{Stored, Agree, EndAt, SomeTermFrom, EntryBytes, bytes-single, bytes-pair, pushed}
 use Rattle.frames.specs.declared.FrameRecord.{FrameRecord}
 use Rattle.frames.proofs.Entries.{agree-refl, agree-part, agree-trans, stands-agree, bytes-start, bytes-end}
 use Rattle.frames.proofs.Laws.{stored-depth, stored-push, stored-agree}
 use Rattle.verdict.specs.Bounds.{bodyFits, waitingSize, waitingScope}
 use Rattle.verdict.specs.Verdict.{number, placeOf, Ground, Side, left-side, right-side, identical, Progress, Run, passed, stopped, andThen, turned}
-use Rattle.recursion.specs.Recursion.{Waiting, terms, liftWaiting, Replayed, form, refused-at, outgrown-at, replayFrom, oneSide, compareWith, nextGroup as withGroup, typedBy as withType, compareNext, copiedRule, enough}
+use Rattle.recursion.specs.Recursion.{Waiting, termsOf, liftWaiting, Replayed, form, refused-at, outgrown-at, replayFrom, oneSide, compareWith, nextGroup as withGroup, typedBy as withType, compareNext, copiedRule, enough}
 use Rattle.recursion.proofs.Same.{terms-lift}
-use Rattle.waiting.specs.Waiting.{Part, queueLength, slotOf, Waits, Queue, Written, Writable, Puts, TopAsked, TopPut}
+use Rattle.waiting.specs.Waiting.{Part, queueLength, slotOf, Waits, Queue, WrittenTerm, Writable, Puts, TopAsked, TopPut}
 use Rattle.copies.specs.State.{Sound, sound-single, sound-pair, Reached, Says, says-passed, says-stopped, copiedNow, Known, exact, fitting, CopyAt, Room}
-use Rattle.copies.specs.Contracts.{Turning, stopping, goingOn, Ready, AbsReady, Turned, turn-stops, turn-goes, Ruled}
+use Rattle.copies.specs.Contracts.{TurnResult, stopping, goingOn, CopyReady, AbsReady, Turned, turn-stops, turn-goes, Ruled}
 use Rattle.waiting.specs.declared.Slot.{Slot}
 use Rattle.compare.specs.declared.Compared.{Compared}
 use Rattle.compare.specs.Compares.{Comparing, CompareSays, compare-passed, compare-stopped, Compares}
@@ -75,16 +75,16 @@ compare-placed R w U p = typed (type R (w .term))
 
 -- ---- The rules of an abstractor.
 module _ (go : Frame → List Waiting → List Term → Term → Progress → Run) (place : ℕ) (R : Frame) (W Q : List Waiting) (B U X : Term) (p : Progress) (e : B ≡ abs U X) where
-  rule-alone : W ≡ [] → Q ≡ [] → copiedRule go place R W (terms Q) B p ≡ go (R ▹ single U) [] [] X p
-  unfolding copiedRule terms
+  rule-alone : W ≡ [] → Q ≡ [] → copiedRule go place R W (termsOf Q) B p ≡ go (R ▹ single U) [] [] X p
+  unfolding copiedRule termsOf
   rule-alone a b = rw (e, a, b)
 
-  rule-yet : (w : Waiting) (Q′ : List Waiting) → Q ≡ w ∷ Q′ → copiedRule go place R W (terms Q) B p ≡ go (R ▹ pair (w .term) U) (liftWaiting W) (terms (liftWaiting Q′)) X p
-  unfolding copiedRule terms
+  rule-yet : (w : Waiting) (Q′ : List Waiting) → Q ≡ w ∷ Q′ → copiedRule go place R W (termsOf Q) B p ≡ go (R ▹ pair (w .term) U) (liftWaiting W) (termsOf (liftWaiting Q′)) X p
+  unfolding copiedRule termsOf
   rule-yet w Q′ a = rw (e, a, terms-lift Q′)
 
-  rule-wait : (w : Waiting) (W′ : List Waiting) → W ≡ w ∷ W′ → Q ≡ [] → copiedRule go place R W (terms Q) B p ≡ andThen (compareNext R w U p) (go (R ▹ pair (w .term) U) (liftWaiting W′) [] X)
-  unfolding copiedRule terms
+  rule-wait : (w : Waiting) (W′ : List Waiting) → W ≡ w ∷ W′ → Q ≡ [] → copiedRule go place R W (termsOf Q) B p ≡ andThen (compareNext R w U p) (go (R ▹ pair (w .term) U) (liftWaiting W′) [] X)
+  unfolding copiedRule termsOf
   rule-wait w W′ a b = rw (e, a, b)
 
 fewer-at : (R : Frame) (e : Entry) (B X : Term) → B ≡ abs (domain e) X → enough (R ▹ e) X < enough R B
@@ -94,10 +94,10 @@ pub part-at : {d d′ : ℕ} {t : Term} → d ≡ d′ → Part d t → Part d�
 part-at e q = rw (← e) q
 
 -- ---- An entry written.
-pub single-bytes : {w w′ : List ℕ} {p e : ℕ} {U : Term} → Written 0xff w w′ p e U → EntryBytes w′ p (single U) e
+pub single-bytes : {w w′ : List ℕ} {p e : ℕ} {U : Term} → WrittenTerm 0xff w w′ p e U → EntryBytes w′ p (single U) e
 single-bytes u = bytes-single (u .marked) (u .stands)
 
-pub pair-bytes : {w w₁ w₂ : List ℕ} {p m e : ℕ} {K U : Term} → Written 0xfe w w₁ p m K → Written 0xff w₁ w₂ m e U → EntryBytes w₂ p (pair K U) e
+pub pair-bytes : {w w₁ w₂ : List ℕ} {p m e : ℕ} {K U : Term} → WrittenTerm 0xfe w w₁ p m K → WrittenTerm 0xff w₁ w₂ m e U → EntryBytes w₂ p (pair K U) e
 pair-bytes {p = p} k u =
     let a = stands-start (k .stands) in
     bytes-pair (u .below .same p (omega arith) (omega arith) ∙ k .marked) (stands-agree (k .stands) (agree-part (u .below) (omega arith) (omega arith)) (omega (arith, stands-start (u .stands), stands-end (u .stands)))) (u .marked) (u .stands)
@@ -139,7 +139,7 @@ module _ {file t w ws ys : List ℕ} {base : ℕ} {s : Copying} {f : FrameRecord
       let b = scope-lift (s .shift) (suc (s .cut)) (two-abs .two) in
       (omega (arith, ap scope seen-abs), a, b)
 
-  pub abs-standing : Standing w (s .from + 1)
+  pub abs-standing : SomeTermFrom w (s .from + 1)
   abs-standing = record { work = z .stored .work; end = two-abs .mid; term = two-abs .one; stands = two-abs .first }
 
   pub domain-part : Part (f .len) seen-u
@@ -178,7 +178,7 @@ module _ {file t w ws ys : List ℕ} {base : ℕ} {s : Copying} {f : FrameRecord
       room = r;
     }
 
-    pub domain-written : {w₁ w₂ : List ℕ} {a b : ℕ} → length w₁ ≡ longestState → Agree w w₁ 0 (f .end) → Puts 0xff w₁ w₁ w₂ (s .from + 1) m (s .shift) (s .cut) 0 a b → Written 0xff w₁ w₂ a b seen-u
+    pub domain-written : {w₁ w₂ : List ℕ} {a b : ℕ} → length w₁ ≡ longestState → Agree w w₁ 0 (f .end) → Puts 0xff w₁ w₁ w₂ (s .from + 1) m (s .shift) (s .cut) 0 a b → WrittenTerm 0xff w₁ w₂ a b seen-u
     unfolding seen-u
     domain-written {w₁} l g u = rw (lift-zero 0 (lift (s .shift) (s .cut) (two-abs .one))) at (u .all (two-abs .one) (stands-agree first (agree-part g (omega arith) (omega (arith, abs-bounds .1, abs-bounds .2))) (omega (arith, abs-bounds .1, abs-bounds .2, z .stored .inside))))
 
@@ -213,10 +213,10 @@ module _ {file t w ws ys : List ℕ} {base : ℕ} {s : Copying} {f : FrameRecord
     fewer e q = fewer-at R e B seen-x (seen-abs ∙ ap (λ u. abs u seen-x) (sym q))
 
     -- (x)
-    pub alone-goes : (place : ℕ) {w₂ : List ℕ} {b : ℕ} → s .ytop ≤ 0 → s .top ≡ base → Written 0xff w w₂ (f .end) b seen-u
+    pub alone-goes : (place : ℕ) {w₂ : List ℕ} {b : ℕ} → s .ytop ≤ 0 → s .top ≡ base → WrittenTerm 0xff w w₂ (f .end) b seen-u
         → Turned file t w₂ ws ys base place (goingOn (record { top = s .top; ytop = s .ytop; from = m; to = s .to; shift = s .shift; cut = s .cut + 1; scope = 0; next = s .next; comparisons = s .comparisons }) (pushed f b)) (enough R B)
-        (copiedRule (copiedNow place) place R W (terms Q) B (turned 1 p))
-    unfolding terms liftWaiting domain
+        (copiedRule (copiedNow place) place R W (termsOf Q) B (turned 1 p))
+    unfolding termsOf liftWaiting domain
     alone-goes place y e u =
         let a : W ≡ [] = queue-empty (z .waits) e in
         let b : Q ≡ [] = queue-empty (z .copied) (omega arith) in
@@ -229,14 +229,14 @@ module _ {file t w ws ys : List ℕ} {base : ℕ} {s : Copying} {f : FrameRecord
       last-yet = queue-last (z .copied) (λ e. omega arith)
 
       yet-fits : (f .end + (suc (size (last-yet .last .term)) + suc (size (two-abs .one))) ≤ longestState) × (f .len + scope (last-yet .last .term) ≤ mostAbstractors)
-      unfolding waitingSize waitingScope terms
-      yet-fits = let e = last-yet .is in (omega (arith, o .fits, sizes .0, ap (λ l. waitingSize (terms l)) e), omega (arith, o .copied-fit, ap (λ l. waitingScope (terms l)) e))
+      unfolding waitingSize waitingScope termsOf
+      yet-fits = let e = last-yet .is in (omega (arith, o .fits, sizes .0, ap (λ l. waitingSize (termsOf l)) e), omega (arith, o .copied-fit, ap (λ l. waitingScope (termsOf l)) e))
 
       pub yet-asked : TopAsked w ys w (f .len) (f .end) 0 (s .ytop) (f .end)
       yet-asked = record { work = z .stored .work; last = last-yet .last; others = last-yet .others; queue = rw (last-yet .is) at (z .copied); room = omega (arith, yet-fits .0); shallow = yet-fits .1; few = z .ytops }
 
       module _ {w₁ : List ℕ} {a : ℕ} (k : TopPut w ys w w₁ (f .len) (f .end) 0 (s .ytop) (f .end) a) where
-        pub yet-written : Written 0xfe w w₁ (f .end) a (last-yet .last .term)
+        pub yet-written : WrittenTerm 0xfe w w₁ (f .end) a (last-yet .last .term)
         yet-written = k .all (last-yet .last) (last-yet .others) (rw (last-yet .is) at (z .copied))
 
         pub yet-past : (a ≡ f .end + suc (size (last-yet .last .term))) × (a + suc (size (two-abs .one)) ≤ longestState)
@@ -246,7 +246,7 @@ module _ {file t w ws ys : List ℕ} {base : ℕ} {s : Copying} {f : FrameRecord
         yet-domain = (omega (arith, yet-past .0), domain-writable (yet-written .work) (yet-written .below) (yet-past .1))
 
         module _ {w₂ : List ℕ} {b : ℕ} (v : Puts 0xff w₁ w₁ w₂ (s .from + 1) m (s .shift) (s .cut) 0 a b) where
-          pub yet-whole : Written 0xff w₁ w₂ a b seen-u
+          pub yet-whole : WrittenTerm 0xff w₁ w₂ a b seen-u
           yet-whole = domain-written (yet-written .work) (yet-written .below) v
 
           pub yet-below : Agree w w₂ 0 (f .end)
@@ -254,7 +254,7 @@ module _ {file t w ws ys : List ℕ} {base : ℕ} {s : Copying} {f : FrameRecord
 
           pub yet-goes : (place : ℕ)
               → Turned file t w₂ ws ys base place (goingOn (record { top = s .top; ytop = s .ytop - 1; from = m; to = s .to; shift = s .shift; cut = s .cut + 1; scope = 0; next = s .next; comparisons = s .comparisons }) (pushed f b)) (enough R B)
-              (copiedRule (copiedNow place) place R W (terms Q) B (turned 1 p))
+              (copiedRule (copiedNow place) place R W (termsOf Q) B (turned 1 p))
           unfolding domain
           yet-goes place =
               let l = last-yet in
@@ -274,14 +274,14 @@ module _ {file t w ws ys : List ℕ} {base : ℕ} {s : Copying} {f : FrameRecord
       wait-above = omega (arith, queue-base (z .waits), e)
 
       wait-fits : (f .end + (suc (size (last-wait .last .term)) + suc (size (two-abs .one))) ≤ longestState) × (f .len + scope (last-wait .last .term) ≤ mostAbstractors)
-      unfolding waitingSize waitingScope terms
-      wait-fits = let e = last-wait .is in (omega (arith, o .fits, sizes .0, ap (λ l. waitingSize (terms l)) e), omega (arith, o .waits-fit, ap (λ l. waitingScope (terms l)) e))
+      unfolding waitingSize waitingScope termsOf
+      wait-fits = let e = last-wait .is in (omega (arith, o .fits, sizes .0, ap (λ l. waitingSize (termsOf l)) e), omega (arith, o .waits-fit, ap (λ l. waitingScope (termsOf l)) e))
 
       pub wait-asked : TopAsked t ws w (f .len) (length t) base (s .top) (f .end)
       wait-asked = record { work = z .stored .work; last = last-wait .last; others = last-wait .others; queue = rw (last-wait .is) at (z .waits); room = omega (arith, wait-fits .0); shallow = wait-fits .1; few = z .tops }
 
       module _ {w₁ : List ℕ} {a : ℕ} (k : TopPut t ws w w₁ (f .len) (length t) base (s .top) (f .end) a) where
-        pub wait-written : Written 0xfe w w₁ (f .end) a (last-wait .last .term)
+        pub wait-written : WrittenTerm 0xfe w w₁ (f .end) a (last-wait .last .term)
         wait-written = k .all (last-wait .last) (last-wait .others) (rw (last-wait .is) at (z .waits))
 
         wait-past : (a ≡ f .end + suc (size (last-wait .last .term))) × (a + suc (size (two-abs .one)) ≤ longestState)
@@ -291,7 +291,7 @@ module _ {file t w ws ys : List ℕ} {base : ℕ} {s : Copying} {f : FrameRecord
         wait-domain = (omega (arith, wait-past .0), domain-writable (wait-written .work) (wait-written .below) (wait-past .1))
 
         module _ {w₂ : List ℕ} {b : ℕ} (v : Puts 0xff w₁ w₁ w₂ (s .from + 1) m (s .shift) (s .cut) 0 a b) where
-          pub wait-whole : Written 0xff w₁ w₂ a b seen-u
+          pub wait-whole : WrittenTerm 0xff w₁ w₂ a b seen-u
           wait-whole = domain-written (wait-written .work) (wait-written .below) v
 
           pub wait-below : Agree w w₂ 0 (f .end)
@@ -324,13 +324,13 @@ module _ {file t w ws ys : List ℕ} {base : ℕ} {s : Copying} {f : FrameRecord
             unfolding turned compareNext
             compared = r .all R (last-wait .last .term) seen-u (z .reached .groups) now-stored applied (wait-whole .stands) (z .reached .stand) (last-wait .last .place) (turned 1 p) (z .reached .left)
 
-            rule-is : (place : ℕ) → copiedRule (copiedNow place) place R W (terms Q) B (turned 1 p)
+            rule-is : (place : ℕ) → copiedRule (copiedNow place) place R W (termsOf Q) B (turned 1 p)
                 ≡ andThen (compareNext R (last-wait .last) seen-u (turned 1 p)) (copiedNow place (R ▹ pair (last-wait .last .term) seen-u) (liftWaiting (last-wait .others)) [] seen-x)
-            unfolding copiedRule terms
+            unfolding copiedRule termsOf
             rule-is place = rule-wait (copiedNow place) place R W Q B seen-u seen-x (turned 1 p) seen-abs (last-wait .last) (last-wait .others) (last-wait .is) no-yet
 
             pub wait-stops : (place : ℕ) {u : Slot} → (c .number ≡ 0 → ⊥) → u ≡ slotOf ws (s .top - 1)
-                → Turned file t w₂ ws ys base place (stopping (c .number) (u .place) s f) (enough R B) (copiedRule (copiedNow place) place R W (terms Q) B (turned 1 p))
+                → Turned file t w₂ ws ys base place (stopping (c .number) (u .place) s f) (enough R B) (copiedRule (copiedNow place) place R W (termsOf Q) B (turned 1 p))
             unfolding andThen turned
             wait-stops place {u} g q = rw (rule-is place) (go (compareNext R (last-wait .last) seen-u (turned 1 p)) compared (compare-placed R (last-wait .last) seen-u (turned 1 p)))
               where
@@ -341,8 +341,8 @@ module _ {file t w ws ys : List ℕ} {base : ℕ} {s : Copying} {f : FrameRecord
 
             pub wait-goes : (place : ℕ) → c .number ≡ 0
                 → Turned file t w₂ ws ys base place (goingOn (record { top = s .top - 1; ytop = s .ytop; from = m; to = s .to; shift = s .shift; cut = s .cut + 1; scope = 0; next = c .next; comparisons = s .comparisons + 1 }) (pushed f b)) (enough R B)
-                (copiedRule (copiedNow place) place R W (terms Q) B (turned 1 p))
-            unfolding andThen turned terms liftWaiting domain
+                (copiedRule (copiedNow place) place R W (termsOf Q) B (turned 1 p))
+            unfolding andThen turned termsOf liftWaiting domain
             wait-goes place g = rw (rule-is place) (go (compareNext R (last-wait .last) seen-u (turned 1 p)) compared)
               where
                 l : Last t ws (f .len) (length t) base (s .top) W

@@ -24,16 +24,16 @@ use Rattle.frames.specs.declared.FrameRecord.{FrameRecord}
 use Rattle.frames.proofs.Entries.{agree-refl, agree-part, agree-trans, bytes-start}
 use Rattle.verdict.specs.Bounds.{stateFits, waitingSize, waitingScope}
 use Rattle.verdict.specs.Verdict.{number, placeOf, state-outgrown, Progress, Run, stopped, turned}
-use Rattle.recursion.specs.Recursion.{Waiting, terms, tested, copiedRule, enough}
-use Rattle.waiting.specs.Waiting.{queueLength, slotOf, within, Fitted, Puts, Written, TopPut}
+use Rattle.recursion.specs.Recursion.{Waiting, termsOf, tested, copiedRule, enough}
+use Rattle.waiting.specs.Waiting.{queueLength, slotOf, within, Fitted, Puts, WrittenTerm, TopPut}
 use Rattle.copies.specs.State.{Says, says-stopped, copiedNow, CopyAt, Room}
-use Rattle.copies.specs.Contracts.{Turning, nearStop, nearGo, withFrame, entering, stopping, goingOn, Ready, AbsReady, Stated, Turned, turn-stops, turn-goes, Ruled, Settled, settled-stops, settled-abs, Settles, Turns, Copies}
+use Rattle.copies.specs.Contracts.{TurnResult, keptStop, keptGo, withFrame, entering, stopping, goingOn, CopyReady, AbsReady, Stated, Turned, turn-stops, turn-goes, Ruled, Settled, settled-stops, settled-abs, Settles, Turns, Copies}
 use Rattle.waiting.specs.declared.Slot.{Slot}
 use Rattle.copies.specs.declared.Walked.{Walked}
 use Rattle.compare.specs.declared.Compared.{Compared}
 use Rattle.compare.specs.Compares.{Comparing, CompareSays, compare-passed, compare-stopped, Compares}
 use Rattle.copies.specs.declared.Copying.{Copying}
-use Rattle.copies.specs.declared.Near.{Near}
+use Rattle.copies.specs.declared.FrameKept.{FrameKept}
 use Rattle.copies.proofs.Runs.{copied-step, copied-fits, room, tested-true, tested-false}
 use Rattle.copies.proofs.Copy.{state-size}
 use Rattle.copies.proofs.Enter.{domain-written, alone-goes, yet-written, yet-whole, yet-below, yet-past, yet-goes, wait-whole, wait-below, wait-domain, wait-stops, wait-goes}
@@ -48,7 +48,7 @@ is-true false e = sym e
 
 -- A stop says nothing of the frame.
 stops-still : {file t w ws ys : List ℕ} {base place : ℕ} {n i e : ℕ} {s : Copying} {f : FrameRecord} {m : ℕ} {x : Run} → Turned file t w ws ys base place (stopping n i s f) m x
-    → Turned file t w ws ys base place (entering (record { going = false; out = nearStop n i s .out; state = s; end = e }) f) m x
+    → Turned file t w ws ys base place (entering (record { going = false; out = keptStop n i s .out; state = s; end = e }) f) m x
 stops-still (turn-stops a b) = turn-stops refl b
 stops-still (turn-goes a c l q) = let z : _≡_ {A = ℕ} 0 1 = cc in absurd (omega arith)
 
@@ -84,7 +84,7 @@ module _ {file t w ws ys : List ℕ} {base : ℕ} {s : Copying} {f : FrameRecord
   module _ (place : ℕ) {w₁ w₂ : List ℕ} {a b : ℕ} (y : s .ytop ≤ 0) (e : s .top ≡ base → ⊥) (k : TopPut t ws w w₁ (f .len) (length t) base (s .top) (f .end) a) (v : Puts 0xff w₁ w₁ w₂ (s .from + 1) m (s .shift) (s .cut) 0 a b)
       {c : Compared} (r : Compares file w₂ (s .next) f a b c) where
     pub wait-ruled-stop : {u : Slot} → (c .number ≡ 0 → ⊥) → u ≡ slotOf ws (s .top - 1)
-        → Ruled file t w w₂ ws ys ys base place s f (entering (record { going = false; out = nearStop (c .number) (u .place) s .out; state = s; end = f .end }) f)
+        → Ruled file t w w₂ ws ys ys base place s f (entering (record { going = false; out = keptStop (c .number) (u .place) s .out; state = s; end = f .end }) f)
     wait-ruled-stop h q =
         let z = g .ready .at in
         let o = g .ready .room in
@@ -111,21 +111,21 @@ module _ {file t w ws ys : List ℕ} {base : ℕ} {s : Copying} {f : FrameRecord
         }
 
 -- ---- A turn.
-turned-is : {file t w ws ys : List ℕ} {base place : ℕ} {r : Turning} {m : ℕ} {x y : Run} → x ≡ y → Turned file t w ws ys base place r m y → Turned file t w ws ys base place r m x
+turned-is : {file t w ws ys : List ℕ} {base place : ℕ} {r : TurnResult} {m : ℕ} {x y : Run} → x ≡ y → Turned file t w ws ys base place r m y → Turned file t w ws ys base place r m x
 turned-is e d = rw e d
 
 module _ {file t w ws ys : List ℕ} {base : ℕ} {s : Copying} {f : FrameRecord} {ok : Bool} (h : Fitted ws ys base (s .top) (s .ytop) (f .end) (f .len) (s .to - s .from) (s .scope) ok) where
   module _ {R : Frame} {W Q : List Waiting} {B : Term} {p : Progress} (z : CopyAt file t w ws ys base s f R W Q B p) where
-    test-is : within (f .end + (waitingSize (terms W) + (waitingSize (terms Q) + size B))) (f .len + max (waitingScope (terms W)) (max (waitingScope (terms Q)) (s .scope))) ≡ ok
-    test-is = ap (λ n. within (f .end + (waitingSize (terms W) + (waitingSize (terms Q) + n))) (f .len + max (waitingScope (terms W)) (max (waitingScope (terms Q)) (s .scope)))) (state-size z) ∙ sym (h .is t w (f .len) (f .len) (length t) (f .end) W Q (z .waits) (z .copied))
+    test-is : within (f .end + (waitingSize (termsOf W) + (waitingSize (termsOf Q) + size B))) (f .len + max (waitingScope (termsOf W)) (max (waitingScope (termsOf Q)) (s .scope))) ≡ ok
+    test-is = ap (λ n. within (f .end + (waitingSize (termsOf W) + (waitingSize (termsOf Q) + n))) (f .len + max (waitingScope (termsOf W)) (max (waitingScope (termsOf Q)) (s .scope)))) (state-size z) ∙ sym (h .is t w (f .len) (f .len) (length t) (f .end) W Q (z .waits) (z .copied))
 
-    fits-is : stateFits (copied R (terms W) (terms Q) B) ≡ ok
+    fits-is : stateFits (copied R (termsOf W) (termsOf Q) B) ≡ ok
     fits-is = copied-fits (z .stored) (z .sound) W Q B (z .known) ∙ test-is
 
     has-room : ok ≡ true → Room (f .len) (f .end) W Q B
     has-room e = room (f .len) (f .end) (s .scope) W Q B (z .known) (test-is ∙ e)
 
-  pub ready : ok ≡ true → Stated file t w ws ys base s f → Ready file t w ws ys base s f
+  pub ready : ok ≡ true → Stated file t w ws ys base s f → CopyReady file t w ws ys base s f
   ready e g = record { frame = g .frame; ww = g .ww; yy = g .yy; body = g .body; progress = g .progress; at = g .at; room = has-room (g .at) e }
 
   pub outgrown : (place : ℕ) → ok ≡ false → Stated file t w ws ys base s f → Turns file t w w ws ys ys base place s f (stopping 11 place s f)
@@ -135,16 +135,16 @@ module _ {file t w ws ys : List ℕ} {base : ℕ} {s : Copying} {f : FrameRecord
     below = agree-refl;
     grown = omega arith;
     ylong = g .at .ylong;
-    all = λ R W Q B p z. turned-is (copied-step place R W (terms Q) B p ∙ tested-false _ place _ p (fits-is z ∙ e)) (turn-stops refl (says-stopped refl (λ o. omega arith) refl (sym (z .reached .counted))));
+    all = λ R W Q B p z. turned-is (copied-step place R W (termsOf Q) B p ∙ tested-false _ place _ p (fits-is z ∙ e)) (turn-stops refl (says-stopped refl (λ o. omega arith) refl (sym (z .reached .counted))));
   }
 
-  pub ruled : {place : ℕ} {w′ ys′ : List ℕ} {r : Turning} → ok ≡ true → Ruled file t w w′ ws ys ys′ base place s f r → Turns file t w w′ ws ys ys′ base place s f r
+  pub ruled : {place : ℕ} {w′ ys′ : List ℕ} {r : TurnResult} → ok ≡ true → Ruled file t w w′ ws ys ys′ base place s f r → Turns file t w w′ ws ys ys′ base place s f r
   ruled {place} e d = record {
     work = d .work;
     below = d .below;
     grown = d .grown;
     ylong = d .ylong;
-    all = λ R W Q B p z. turned-is (copied-step place R W (terms Q) B p ∙ tested-true _ place _ p (fits-is z ∙ e)) (d .all R W Q B p z (has-room z e));
+    all = λ R W Q B p z. turned-is (copied-step place R W (termsOf Q) B p ∙ tested-true _ place _ p (fits-is z ∙ e)) (d .all R W Q B p z (has-room z e));
   }
 
 -- ---- The states that are left, from the bytes.
@@ -202,13 +202,13 @@ pub record Now (file t w ws ys : List ℕ) (base place : ℕ) (s : Copying) (f :
   pub body : Term
   pub progress : Progress
   pub at : CopyAt file t w ws ys base s f frame ww yy body progress
-  pub same : x ≡ copiedNow place frame ww (terms yy) body progress
+  pub same : x ≡ copiedNow place frame ww (termsOf yy) body progress
 
 pub record Going (file t w₀ w ws ys₀ ys : List ℕ) (base place : ℕ) (s₀ : Copying) (f₀ : FrameRecord) (s : Copying) (f : FrameRecord) : Type 0 where
   pub start : Stated file t w₀ ws ys₀ base s₀ f₀
   pub below : Agree w₀ w 0 (f₀ .end)
   pub grown : f₀ .end ≤ f .end
-  pub all : (R : Frame) (W Q : List Waiting) (B : Term) (p : Progress) → CopyAt file t w₀ ws ys₀ base s₀ f₀ R W Q B p → Now file t w ws ys base place s f (copiedNow place R W (terms Q) B p)
+  pub all : (R : Frame) (W Q : List Waiting) (B : Term) (p : Progress) → CopyAt file t w₀ ws ys₀ base s₀ f₀ R W Q B p → Now file t w ws ys base place s f (copiedNow place R W (termsOf Q) B p)
 
 pub going-start : {file t w ws ys : List ℕ} {base : ℕ} (place : ℕ) {s : Copying} {f : FrameRecord} → Stated file t w ws ys base s f → Going file t w w ws ys ys base place s f s f
 going-start place g = record { start = g; below = agree-refl; grown = omega arith; all = λ R W Q B p z. record { frame = R; ww = W; yy = Q; body = B; progress = p; at = z; same = refl } }
@@ -217,13 +217,13 @@ says-is : {file : List ℕ} {r : Walked} {x y : Run} → x ≡ y → Says file r
 says-is e h = rw e h
 
 module _ {file t w₀ w ws ys₀ ys : List ℕ} {base place : ℕ} {s₀ : Copying} {f₀ : FrameRecord} {s : Copying} {f : FrameRecord} (g : Going file t w₀ w ws ys₀ ys base place s₀ f₀ s f) where
-  now : Now file t w ws ys base place s f (copiedNow place (g .start .frame) (g .start .ww) (terms (g .start .yy)) (g .start .body) (g .start .progress))
+  now : Now file t w ws ys base place s f (copiedNow place (g .start .frame) (g .start .ww) (termsOf (g .start .yy)) (g .start .body) (g .start .progress))
   now = g .all (g .start .frame) (g .start .ww) (g .start .yy) (g .start .body) (g .start .progress) (g .start .at)
 
   pub now-stated : Stated file t w ws ys base s f
   now-stated = record { frame = now .frame; ww = now .ww; yy = now .yy; body = now .body; progress = now .progress; at = now .at }
 
-  module _ {w′ ys′ : List ℕ} {r : Turning} (u : Turns file t w w′ ws ys ys′ base place s f r) where
+  module _ {w′ ys′ : List ℕ} {r : TurnResult} (u : Turns file t w w′ ws ys ys′ base place s f r) where
     below : Agree w₀ w′ 0 (f₀ .end)
     below = agree-trans (g .below) (agree-part (u .below) (omega arith) (g .grown))
 
@@ -250,23 +250,23 @@ module _ {file t w₀ w ws ys₀ ys : List ℕ} {base place : ℕ} {s₀ : Copyi
           go (turn-goes a c l q) = omega (arith, enough-in c, enough-in (now .at), l)
 
 -- ---- Turns until an abstractor.
-pub copies-settles : {file t w ws ys ys′ : List ℕ} {base place : ℕ} {s : Copying} {f : FrameRecord} {r : Near} → r .going ≡ false → Copies file t w w ws ys ys′ base place s f (r .out) → Settles file t w ws ys ys′ base place s f r
+pub copies-settles : {file t w ws ys ys′ : List ℕ} {base place : ℕ} {s : Copying} {f : FrameRecord} {r : FrameKept} → r .going ≡ false → Copies file t w w ws ys ys′ base place s f (r .out) → Settles file t w ws ys ys′ base place s f r
 copies-settles e c = record { ylong = c .ylong; all = λ R W Q B p z. settled-stops e (c .all R W Q B p z) }
 
 module _ {file t w ws ys₀ ys : List ℕ} {base place : ℕ} {s₀ s : Copying} {f : FrameRecord} {ok : Bool} (g : Going file t w w ws ys₀ ys base place s₀ f s f) (l : enoughIn w f s ≤ enoughIn w f s₀)
     (h : Fitted ws ys base (s .top) (s .ytop) (f .end) (f .len) (s .to - s .from) (s .scope) ok) where
-  pub settles-outgrown : ok ≡ false → Settles file t w ws ys₀ ys base place s₀ f (nearStop 11 place s)
+  pub settles-outgrown : ok ≡ false → Settles file t w ws ys₀ ys base place s₀ f (keptStop 11 place s)
   settles-outgrown e = copies-settles refl (going-done g (outgrown h place e (now-stated g)) refl)
 
   module _ (e : ok ≡ true) where
-    pub settles-abs : 0xfe < getD w (s .from) 0 → Settles file t w ws ys₀ ys base place s₀ f (nearGo s)
+    pub settles-abs : 0xfe < getD w (s .from) 0 → Settles file t w ws ys₀ ys base place s₀ f (keptGo s)
     settles-abs b = record {
       ylong = now-stated g .at .ylong;
       all = λ R W Q B p z. let n = g .all R W Q B p z in
-          settled-abs refl (n .at) (has-room h (n .at) e) b (omega (arith, l, enough-in (n .at), enough-in z)) (n .same ∙ copied-step place (n .frame) (n .ww) (terms (n .yy)) (n .body) (n .progress) ∙ tested-true _ place _ (n .progress) (fits-is h (n .at) ∙ e));
+          settled-abs refl (n .at) (has-room h (n .at) e) b (omega (arith, l, enough-in (n .at), enough-in z)) (n .same ∙ copied-step place (n .frame) (n .ww) (termsOf (n .yy)) (n .body) (n .progress) ∙ tested-true _ place _ (n .progress) (fits-is h (n .at) ∙ e));
     }
 
-    module _ {ys′ : List ℕ} {r : Near} (u : Ruled file t w w ws ys ys′ base place s f (withFrame r f)) where
+    module _ {ys′ : List ℕ} {r : FrameKept} (u : Ruled file t w w ws ys ys′ base place s f (withFrame r f)) where
       pub settles-done : r .going ≡ false → Settles file t w ws ys₀ ys′ base place s₀ f r
       settles-done i = copies-settles i (going-done g (ruled h e u) i)
 
@@ -277,11 +277,11 @@ module _ {file t w ws ys₀ ys : List ℕ} {base place : ℕ} {s₀ s : Copying}
       settling-fewer i = going-fewer g (ruled h e u) i
 
 -- ---- And past it.
-turned-within : {file t w ws ys : List ℕ} {base place : ℕ} {r : Turning} {m n : ℕ} {x : Run} → m ≤ n → Turned file t w ws ys base place r m x → Turned file t w ws ys base place r n x
+turned-within : {file t w ws ys : List ℕ} {base place : ℕ} {r : TurnResult} {m n : ℕ} {x : Run} → m ≤ n → Turned file t w ws ys base place r m x → Turned file t w ws ys base place r n x
 turned-within l (turn-stops a b) = turn-stops a b
 turned-within l (turn-goes a c d q) = turn-goes a c (omega (arith, d, l)) q
 
-module _ {file t w ws ys ys′ : List ℕ} {base place : ℕ} {s : Copying} {f : FrameRecord} {r : Near} (g : Stated file t w ws ys base s f) (v : Settles file t w ws ys ys′ base place s f r) where
+module _ {file t w ws ys ys′ : List ℕ} {base place : ℕ} {s : Copying} {f : FrameRecord} {r : FrameKept} (g : Stated file t w ws ys base s f) (v : Settles file t w ws ys ys′ base place s f r) where
   pub turns-settled : r .going ≡ false → Turns file t w w ws ys ys′ base place s f (withFrame r f)
   turns-settled e = record { work = g .at .stored .work; below = agree-refl; grown = omega arith; ylong = v .ylong; all = λ R W Q B p z. go (v .all R W Q B p z) }
     where
@@ -290,14 +290,14 @@ module _ {file t w ws ys ys′ : List ℕ} {base place : ℕ} {s : Copying} {f :
       go (settled-abs a z o b l q) = let y : _≡_ {A = ℕ} 0 1 = cc in absurd (omega arith)
 
   module _ (e : r .going ≡ true) where
-    pub settled-ready : Ready file t w ws ys′ base (r .state) f × (0xfe < getD w (r .state .from) 0)
+    pub settled-ready : CopyReady file t w ws ys′ base (r .state) f × (0xfe < getD w (r .state .from) 0)
     settled-ready = go (v .all (g .frame) (g .ww) (g .yy) (g .body) (g .progress) (g .at))
       where
-        go : {m : ℕ} {x : Run} → Settled file t w ws ys′ base place f r m x → Ready file t w ws ys′ base (r .state) f × (0xfe < getD w (r .state .from) 0)
+        go : {m : ℕ} {x : Run} → Settled file t w ws ys′ base place f r m x → CopyReady file t w ws ys′ base (r .state) f × (0xfe < getD w (r .state .from) 0)
         go (settled-stops a b) = let y : _≡_ {A = ℕ} 0 1 = cc in absurd (omega arith)
         go (settled-abs {R = R} {W = W} {Q = Q} {B = B} {p = p} a z o b l q) = (record { frame = R; ww = W; yy = Q; body = B; progress = p; at = z; room = o }, b)
 
-    pub turns-past : {w′ ys″ : List ℕ} {r′ : Turning} → Ruled file t w w′ ws ys′ ys″ base place (r .state) f r′ → Turns file t w w′ ws ys ys″ base place s f r′
+    pub turns-past : {w′ ys″ : List ℕ} {r′ : TurnResult} → Ruled file t w w′ ws ys′ ys″ base place (r .state) f r′ → Turns file t w w′ ws ys ys″ base place s f r′
     turns-past {w′} {ys″} {r′} d = record { work = d .work; below = d .below; grown = d .grown; ylong = d .ylong; all = λ R W Q B p z. go (v .all R W Q B p z) }
       where
         go : {m : ℕ} {x : Run} → Settled file t w ws ys′ base place f r m x → Turned file t w′ ws ys″ base place r′ m x

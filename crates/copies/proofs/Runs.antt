@@ -22,7 +22,7 @@ use Rattle.frames.specs.declared.FrameRecord.{FrameRecord}
 use Rattle.frames.proofs.Laws.{stored-depth, stored-size}
 use Rattle.verdict.specs.Bounds.{frameSize, frameScope, waitingSize, waitingScope, stateSize, stateScope, stateFits}
 use Rattle.verdict.specs.Verdict.{Ground, state-outgrown, Progress, Run, passed, stopped, andThen, turned}
-use Rattle.recursion.specs.Recursion.{Waiting, terms, liftWaiting, compareNext, tested, atTau, atVar, copiedRule, copiedFrom, enough, ownFrom}
+use Rattle.recursion.specs.Recursion.{Waiting, termsOf, liftWaiting, compareNext, tested, atTau, atVar, copiedRule, copiedFrom, enough, ownFrom}
 use Rattle.verdict.proofs.Runs.{cond-both}
 use Rattle.recursion.proofs.Same.{Adequate, adequate-var, adequate-app, adequate-abs, fits-body}
 use Rattle.recursion.proofs.Same.{any-enough}
@@ -57,24 +57,24 @@ module _ (n place : ℕ) where
   now R W Y B p a = any-enough n (enough R B) place R W Y B p a (adequate R B)
 
   step-from : (R : Frame) (W : List Waiting) (Y : List Term) (B : Term) (p : Progress) → Adequate R B (suc n)
-      → copiedFrom (suc n) place R W Y B p ≡ tested (stateFits (copied R (terms W) Y B)) place (copiedRule (copiedNow place) place R W Y B) p
+      → copiedFrom (suc n) place R W Y B p ≡ tested (stateFits (copied R (termsOf W) Y B)) place (copiedRule (copiedNow place) place R W Y B) p
   unfolding copiedFrom copiedRule domain
   step-from R W [] tau p a = refl
   step-from R W (K ∷ Y) tau p a = refl
   step-from R W Y (var k) p a = same-tested _ place _ _ p (λ t. same-var place (entryAt R k) _ _ (turned 1 p) (λ e h. now R W Y (lift k 0 (domain e)) (turned 1 p) (adequate-var h a)))
-  step-from R W Y (app K B) p a = same-tested _ place _ _ p (λ t. now R W (K ∷ Y) B (turned 1 p) (adequate-app (fits-body R (terms W) Y (app K B) t) a))
-  step-from R [] [] (abs U B) p a = same-tested _ place _ _ p (λ t. now (R ▹ single U) [] [] B (turned 1 p) (adequate-abs (single U) (fits-body R (terms []) [] (abs U B) t) a))
+  step-from R W Y (app K B) p a = same-tested _ place _ _ p (λ t. now R W (K ∷ Y) B (turned 1 p) (adequate-app (fits-body R (termsOf W) Y (app K B) t) a))
+  step-from R [] [] (abs U B) p a = same-tested _ place _ _ p (λ t. now (R ▹ single U) [] [] B (turned 1 p) (adequate-abs (single U) (fits-body R (termsOf []) [] (abs U B) t) a))
   step-from R (w ∷ W) [] (abs U B) p a = same-tested _ place _ _ p (λ t.
-      same-then (compareNext R w U (turned 1 p)) _ _ (λ r. now (R ▹ pair (w .term) U) (liftWaiting W) [] B r (adequate-abs (pair (w .term) U) (fits-body R (terms (w ∷ W)) [] (abs U B) t) a)))
+      same-then (compareNext R w U (turned 1 p)) _ _ (λ r. now (R ▹ pair (w .term) U) (liftWaiting W) [] B r (adequate-abs (pair (w .term) U) (fits-body R (termsOf (w ∷ W)) [] (abs U B) t) a)))
   step-from R W (K ∷ Y) (abs U B) p a = same-tested _ place _ _ p (λ t.
-      now (R ▹ pair K U) (liftWaiting W) (liftAll Y) B (turned 1 p) (adequate-abs (pair K U) (fits-body R (terms W) (K ∷ Y) (abs U B) t) a))
+      now (R ▹ pair K U) (liftWaiting W) (liftAll Y) B (turned 1 p) (adequate-abs (pair K U) (fits-body R (termsOf W) (K ∷ Y) (abs U B) t) a))
 
 pub copied-step : (place : ℕ) (R : Frame) (W : List Waiting) (Y : List Term) (B : Term) (p : Progress)
-    → copiedNow place R W Y B p ≡ tested (stateFits (copied R (terms W) Y B)) place (copiedRule (copiedNow place) place R W Y B) p
+    → copiedNow place R W Y B p ≡ tested (stateFits (copied R (termsOf W) Y B)) place (copiedRule (copiedNow place) place R W Y B) p
 unfolding copiedNow enough
 copied-step place R W Y B p = go (enough R B) refl
   where
-    go : (m : ℕ) → enough R B ≡ m → copiedNow place R W Y B p ≡ tested (stateFits (copied R (terms W) Y B)) place (copiedRule (copiedNow place) place R W Y B) p
+    go : (m : ℕ) → enough R B ≡ m → copiedNow place R W Y B p ≡ tested (stateFits (copied R (termsOf W) Y B)) place (copiedRule (copiedNow place) place R W Y B) p
     go zero e = absurd (omega (arith, positive B))
     go (suc n) e = ap (λ k. copiedFrom k place R W Y B p) e ∙ step-from n place R W Y B p (rw e at (adequate R B))
 
@@ -118,36 +118,36 @@ module _ {w : List ℕ} {f : FrameRecord} {R : Frame} (s : Stored w f R) (o : So
   frame-end = size-same R ∙ stored-size s
 
   pub copied-fits : (W Q : List Waiting) (B : Term) {k : ℕ} → Known (f .len) B k
-      → stateFits (copied R (terms W) (terms Q) B) ≡ within (f .end + (waitingSize (terms W) + (waitingSize (terms Q) + size B))) (f .len + max (waitingScope (terms W)) (max (waitingScope (terms Q)) k))
+      → stateFits (copied R (termsOf W) (termsOf Q) B) ≡ within (f .end + (waitingSize (termsOf W) + (waitingSize (termsOf Q) + size B))) (f .len + max (waitingScope (termsOf W)) (max (waitingScope (termsOf Q)) k))
   unfolding stateFits stateSize stateScope
-  copied-fits W Q B {k} n = rw (frame-end, stored-depth s) (ap (λ b. cond (leb (f .end + (waitingSize (terms W) + (waitingSize (terms Q) + size B))) longestState) b false)
+  copied-fits W Q B {k} n = rw (frame-end, stored-depth s) (ap (λ b. cond (leb (f .end + (waitingSize (termsOf W) + (waitingSize (termsOf Q) + size B))) longestState) b false)
       (same-leb _ _ mostAbstractors (λ h. up n h) (λ h. down n h)))
     where
-      up : Known (f .len) B k → max (frameScope R) (f .len + max (waitingScope (terms W)) (max (waitingScope (terms Q)) (scope B))) ≤ mostAbstractors → f .len + max (waitingScope (terms W)) (max (waitingScope (terms Q)) k) ≤ mostAbstractors
+      up : Known (f .len) B k → max (frameScope R) (f .len + max (waitingScope (termsOf W)) (max (waitingScope (termsOf Q)) (scope B))) ≤ mostAbstractors → f .len + max (waitingScope (termsOf W)) (max (waitingScope (termsOf Q)) k) ≤ mostAbstractors
       up (exact e) h = omega arith
       up (fitting e l) h = omega arith
 
-      down : Known (f .len) B k → f .len + max (waitingScope (terms W)) (max (waitingScope (terms Q)) k) ≤ mostAbstractors → max (frameScope R) (f .len + max (waitingScope (terms W)) (max (waitingScope (terms Q)) (scope B))) ≤ mostAbstractors
+      down : Known (f .len) B k → f .len + max (waitingScope (termsOf W)) (max (waitingScope (termsOf Q)) k) ≤ mostAbstractors → max (frameScope R) (f .len + max (waitingScope (termsOf W)) (max (waitingScope (termsOf Q)) (scope B))) ≤ mostAbstractors
       down (exact e) h = omega (arith, sound-scope o)
       down (fitting e l) h = omega (arith, sound-scope o)
 
   pub own-fits : (W : List Waiting) (B : Term) → f .len + scope B ≤ mostAbstractors
-      → stateFits (own R (terms W) B) ≡ within (f .end + (waitingSize (terms W) + (waitingSize (terms []) + size B))) (f .len + max (waitingScope (terms W)) (max (waitingScope (terms [])) 0))
-  unfolding stateFits stateSize stateScope waitingSize waitingScope terms
+      → stateFits (own R (termsOf W) B) ≡ within (f .end + (waitingSize (termsOf W) + (waitingSize (termsOf []) + size B))) (f .len + max (waitingScope (termsOf W)) (max (waitingScope (termsOf [])) 0))
+  unfolding stateFits stateSize stateScope waitingSize waitingScope termsOf
   own-fits W B l =
-      let e : f .end + (waitingSize (terms W) + size B) ≡ f .end + (waitingSize (terms W) + (0 + size B)) = omega arith in
+      let e : f .end + (waitingSize (termsOf W) + size B) ≡ f .end + (waitingSize (termsOf W) + (0 + size B)) = omega arith in
       rw (frame-end, stored-depth s) (same-cond (ap (λ n. leb n longestState) e)
-      (same-leb (max (frameScope R) (f .len + max (waitingScope (terms W)) (scope B))) (f .len + max (waitingScope (terms W)) (max 0 0)) mostAbstractors (λ h. omega arith) (λ h. omega (arith, sound-scope o))))
+      (same-leb (max (frameScope R) (f .len + max (waitingScope (termsOf W)) (scope B))) (f .len + max (waitingScope (termsOf W)) (max 0 0)) mostAbstractors (λ h. omega arith) (λ h. omega (arith, sound-scope o))))
 
 pub room : (d end k : ℕ) (W Q : List Waiting) (B : Term) → Known d B k
-    → within (end + (waitingSize (terms W) + (waitingSize (terms Q) + size B))) (d + max (waitingScope (terms W)) (max (waitingScope (terms Q)) k)) ≡ true → Room d end W Q B
+    → within (end + (waitingSize (termsOf W) + (waitingSize (termsOf Q) + size B))) (d + max (waitingScope (termsOf W)) (max (waitingScope (termsOf Q)) k)) ≡ true → Room d end W Q B
 room d end k W Q B n h =
     let c = cond-both _ _ h in
-    let a = leb-true (end + (waitingSize (terms W) + (waitingSize (terms Q) + size B))) longestState (c .0) in
-    let b = leb-true (d + max (waitingScope (terms W)) (max (waitingScope (terms Q)) k)) mostAbstractors (c .1) in
+    let a = leb-true (end + (waitingSize (termsOf W) + (waitingSize (termsOf Q) + size B))) longestState (c .0) in
+    let b = leb-true (d + max (waitingScope (termsOf W)) (max (waitingScope (termsOf Q)) k)) mostAbstractors (c .1) in
     record { fits = a; waits-fit = omega arith; copied-fit = omega arith; body-fits = go n b }
   where
-    go : Known d B k → d + max (waitingScope (terms W)) (max (waitingScope (terms Q)) k) ≤ mostAbstractors → d + scope B ≤ mostAbstractors
+    go : Known d B k → d + max (waitingScope (termsOf W)) (max (waitingScope (termsOf Q)) k) ≤ mostAbstractors → d + scope B ≤ mostAbstractors
     go (exact e) b = omega arith
     go (fitting e l) b = l
 

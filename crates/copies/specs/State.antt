@@ -7,6 +7,7 @@ use lib.ListN.{length}
 use Rattle.calculus.specs.Terms.{Term, size, lift, Closed}
 use Rattle.calculus.specs.Frames.{single, pair, Frame, ε, _▹_, depth}
 use Rattle.code.specs.Limits.{longestFile, longestTerm, longestState, mostAbstractors}
+use Rattle.code.specs.Refusals.{never}
 use Rattle.code.specs.Claims.{Stands}
 use Rattle.code.specs.Scope.{scope}
 use Rattle.fields.specs.Fields.{GroupAt, Groups}
@@ -14,7 +15,7 @@ use Rattle.frames.specs.Stored.{Stored}
 use Rattle.frames.specs.declared.FrameRecord.{FrameRecord}
 use Rattle.verdict.specs.Bounds.{waitingSize, waitingScope}
 use Rattle.verdict.specs.Verdict.{Ground, number, placeOf, Progress, Run, passed, stopped, not-reached}
-use Rattle.recursion.specs.Recursion.{Waiting, terms, copiedFrom, enough}
+use Rattle.recursion.specs.Recursion.{Waiting, termsOf, copiedFrom, enough}
 use Rattle.waiting.specs.Waiting.{Part, queueLength, Queue, within}
 use Rattle.copies.specs.declared.Walked.{Walked}
 use Rattle.copies.specs.declared.Copying.{Copying}
@@ -33,10 +34,6 @@ pub record Reached (file : List ℕ) (next count : ℕ) (p : Progress) : Type 0 
   pub counted : p .comparisons ≡ count
   pub few : count ≤ next
   pub file-bound : length file ≤ longestFile
-
--- The number of a stop that never is (verdict, `not-reached`).
-abbrev pub never : ℕ
-never = 255
 
 -- What an answer says of a run.
 pub data Says (file : List ℕ) (r : Walked) : Run → Type 0 where
@@ -82,7 +79,7 @@ pub record CopyAt (file t w ws ys : List ℕ) (base : ℕ) (s : Copying) (f : Fr
 
 -- A state within the limits.
 pub record Room (d end : ℕ) (W Q : List Waiting) (B : Term) : Type 0 where
-  pub fits : end + (waitingSize (terms W) + (waitingSize (terms Q) + size B)) ≤ longestState
-  pub waits-fit : d + waitingScope (terms W) ≤ mostAbstractors
-  pub copied-fit : d + waitingScope (terms Q) ≤ mostAbstractors
+  pub fits : end + (waitingSize (termsOf W) + (waitingSize (termsOf Q) + size B)) ≤ longestState
+  pub waits-fit : d + waitingScope (termsOf W) ≤ mostAbstractors
+  pub copied-fit : d + waitingScope (termsOf Q) ≤ mostAbstractors
   pub body-fits : d + scope B ≤ mostAbstractors

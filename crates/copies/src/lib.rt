@@ -6,26 +6,35 @@ ghost use lib.ListN.{getD};
 ghost use Rattle.calculus.specs.Terms.{liftIndex};
 ghost use Rattle.code.specs.Limits.{mostAbstractors};
 ghost use Rattle.code.specs.Code.{Tabled};
-ghost use Rattle.indices.specs.Passes.{Standing};
+ghost use Rattle.indices.specs.Passes.{ShortTerm};
 ghost use Rattle.frames.specs.Stored.{recordOf};
 ghost use Rattle.compare.specs.Sides.{Buffers};
 ghost use Rattle.copies.specs.State.{ScopeKnown};
-ghost use Rattle.copies.specs.Contracts.{nearStop, nearGo, withFrame, entering, AbsReady, Ready, Stated, Ruled, Settles, Copies};
+ghost use Rattle.copies.specs.Contracts.{keptStop, keptGo, withFrame, entering, AbsReady, CopyReady, Stated, Ruled, Settles, Copies};
+use code::Deltas;
+use code::numbers::ACCEPTED;
+use code::numbers::MOST_ABSTRACTORS;
+use code::numbers::NEVER;
+use code::numbers::OUTGROWN;
+use code::numbers::STILL_WAITING;
 use compare::compare;
 use frames::FrameRecord;
+use frames::Starts;
+use frames::Work;
 use frames::end_of;
 use frames::entry_at_by;
 use frames::push;
 use indices::larger;
 use indices::measure;
+use waiting::Queue;
 use waiting::Slot;
-use waiting::figures_of;
 use waiting::fits;
-use waiting::note;
-use waiting::put_seen;
-use waiting::put_wait;
-use waiting::put_yet;
 use waiting::slot_at;
+use waiting::store_slot;
+use waiting::waiting_extent;
+use waiting::write_from_work;
+use waiting::write_last_of_w;
+use waiting::write_last_of_y;
 
 // What a walk answers: 0 or the number and the place of what stops it, the comparisons completed, and where the next group is.
 pub struct Walked {
@@ -50,7 +59,7 @@ pub struct Copying {
 }
 
 // What a rule that leaves the frame as it is comes to.
-pub struct Near {
+pub struct FrameKept {
     pub going: bool,
     pub out: Walked,
     pub state: Copying,
@@ -71,7 +80,7 @@ pub fn wide(x: u8) -> usize
 }
 
 // The index b, seen lifted by n above c.
-fn view(b: u8, n: usize, c: usize) -> usize
+fn seen_index(b: u8, n: usize, c: usize) -> usize
     requires { ⌜ n ≤ 253 ⌝ }
     ensures { λ r. ⌜ r ≡ liftIndex n c b ⌝ }
 {
@@ -83,11 +92,11 @@ fn view(b: u8, n: usize, c: usize) -> usize
 }
 
 // The scope of the term that stands from p up to e; or 0, where its size says already that it fits after d abstractors.
-pub fn scope_or_fit(work: &[u8; 8192], p: usize, e: usize, d: usize) -> usize
-    requires { ⌜ Standing (now work) p e × (d ≤ mostAbstractors) ⌝ }
+pub fn scope_or_fit(work: &Work, p: usize, e: usize, d: usize) -> usize
+    requires { ⌜ ShortTerm (now work) p e × (d ≤ mostAbstractors) ⌝ }
     ensures { λ r. ⌜ ScopeKnown (now (work .entry)) p e d r ⌝ }
 {
-    if d + (e - p) <= 253 {
+    if d + (e - p) <= MOST_ABSTRACTORS {
         return 0;
     }
     let all = &work[..];
@@ -96,8 +105,8 @@ pub fn scope_or_fit(work: &[u8; 8192], p: usize, e: usize, d: usize) -> usize
 }
 
 // ---- Copied text.
-fn finish(number: u32, place: usize, s: Copying) -> Near
-    ensures { λ r. ⌜ r ≡ nearStop number place s ⌝ }
+fn stop_with(number: u32, place: usize, s: Copying) -> FrameKept
+    ensures { λ r. ⌜ r ≡ keptStop number place s ⌝ }
 {
     let out = Walked {
         number,
@@ -105,30 +114,30 @@ fn finish(number: u32, place: usize, s: Copying) -> Near
         comparisons: s.comparisons,
         next: s.next,
     };
-    Near {
+    FrameKept {
         going: false,
         out,
         state: s,
     }
 }
 
-fn on(s: Copying) -> Near
-    ensures { λ r. ⌜ r ≡ nearGo s ⌝ }
+fn go_on(s: Copying) -> FrameKept
+    ensures { λ r. ⌜ r ≡ keptGo s ⌝ }
 {
     let out = Walked {
-        number: 0,
+        number: ACCEPTED,
         place: 0,
         comparisons: s.comparisons,
         next: s.next,
     };
-    Near {
+    FrameKept {
         going: true,
         out,
         state: s,
     }
 }
 
-fn with_end(r: Near, end: usize) -> Entered
+fn with_end(r: FrameKept, end: usize) -> Entered
     ensures { λ x. ⌜ x ≡ record { going = r .going; out = r .out; state = r .state; end = end } ⌝ }
 {
     let out = r.out;
@@ -145,50 +154,50 @@ fn with_end(r: Near, end: usize) -> Entered
 fn tau_turn(
     file: &[u8],
     t: &[u8],
-    work: &[u8; 8192],
-    ws: &[u16; 28672],
-    ys: &[u16; 28672],
+    work: &Work,
+    ws: &Queue,
+    ys: &Queue,
     base: usize,
     place: usize,
     s: Copying,
-    starts: &[u16; 253],
+    starts: &Starts,
     len: usize,
     end: usize,
-) -> Near
-    requires { ⌜ Ready (now file) (now t) (now work) (now ws) (now ys) base s (recordOf (now starts) len end) × (getD (now work) (s .from) 0 ≡ 0) ⌝ }
+) -> FrameKept
+    requires { ⌜ CopyReady (now file) (now t) (now work) (now ws) (now ys) base s (recordOf (now starts) len end) × (getD (now work) (s .from) 0 ≡ 0) ⌝ }
     ensures { λ r. ⌜ Ruled (now (file .entry)) (now (t .entry)) (now (work .entry)) (now (work .entry)) (now (ws .entry)) (now (ys .entry)) (now (ys .entry)) base place s (recordOf (now (starts .entry)) len end) (withFrame r (recordOf (now (starts .entry)) len end)) ⌝ }
 {
     if s.ytop > 0 {
-        return finish(255, place, s);
+        return stop_with(NEVER, place, s);
     }
     if s.top == base {
-        return finish(0, 0, s);
+        return stop_with(ACCEPTED, 0, s);
     }
     let v = slot_at(ws, s.top - 1);
-    finish(8, v.place, s)
+    stop_with(STILL_WAITING, v.place, s)
 }
 
 // (viii)
 fn var_turn(
     file: &[u8],
-    tb: &[i32; 256],
+    deltas: &Deltas,
     t: &[u8],
-    work: &[u8; 8192],
-    ws: &[u16; 28672],
-    ys: &[u16; 28672],
+    work: &Work,
+    ws: &Queue,
+    ys: &Queue,
     base: usize,
     place: usize,
     s: Copying,
-    starts: &[u16; 253],
+    starts: &Starts,
     len: usize,
     end: usize,
-) -> Near
-    requires { ⌜ Tabled (now tb) × Ready (now file) (now t) (now work) (now ws) (now ys) base s (recordOf (now starts) len end) × (getD (now work) (s .from) 0 ≡ 0 → ⊥) × (getD (now work) (s .from) 0 < 0xfe) ⌝ }
+) -> FrameKept
+    requires { ⌜ Tabled (now deltas) × CopyReady (now file) (now t) (now work) (now ws) (now ys) base s (recordOf (now starts) len end) × (getD (now work) (s .from) 0 ≡ 0 → ⊥) × (getD (now work) (s .from) 0 < 0xfe) ⌝ }
     ensures { λ r. ⌜ Ruled (now (file .entry)) (now (t .entry)) (now (work .entry)) (now (work .entry)) (now (ws .entry)) (now (ys .entry)) (now (ys .entry)) base place s (recordOf (now (starts .entry)) len end) (withFrame r (recordOf (now (starts .entry)) len end)) ⌝ }
 {
     let from = s.from;
-    let k = view(work[from], s.shift, s.cut);
-    let e = entry_at_by(tb, work, starts, len, end, k);
+    let k = seen_index(work[from], s.shift, s.cut);
+    let e = entry_at_by(deltas, work, starts, len, end, k);
     let scope = scope_or_fit(work, e.domain, e.end, len);
     let o = Copying {
         top: s.top,
@@ -201,32 +210,32 @@ fn var_turn(
         next: s.next,
         comparisons: s.comparisons,
     };
-    on(o)
+    go_on(o)
 }
 
 // (ix)
 fn app_turn(
     file: &[u8],
-    tb: &[i32; 256],
+    deltas: &Deltas,
     t: &[u8],
-    work: &[u8; 8192],
-    ws: &[u16; 28672],
-    ys: &mut [u16; 28672],
+    work: &Work,
+    ws: &Queue,
+    ys: &mut Queue,
     base: usize,
     place: usize,
     s: Copying,
-    starts: &[u16; 253],
+    starts: &Starts,
     len: usize,
     end: usize,
-) -> Near
-    requires { ⌜ Tabled (now tb) × Ready (now file) (now t) (now work) (now ws) (now ys) base s (recordOf (now starts) len end) × (getD (now work) (s .from) 0 ≡ 0xfe) ⌝ }
+) -> FrameKept
+    requires { ⌜ Tabled (now deltas) × CopyReady (now file) (now t) (now work) (now ws) (now ys) base s (recordOf (now starts) len end) × (getD (now work) (s .from) 0 ≡ 0xfe) ⌝ }
     ensures { λ r. ⌜ Ruled (now (file .entry)) (now (t .entry)) (now (work .entry)) (now (work .entry)) (now (ws .entry)) (now (ys .entry)) (now (ys .exit)) base place s (recordOf (now (starts .entry)) len end) (withFrame r (recordOf (now (starts .entry)) len end)) ⌝ }
 {
     let from = s.from;
-    let m = end_of(tb, work, from + 1);
+    let m = end_of(deltas, work, from + 1);
     let all = &work[..];
     let z = measure(all, from + 1, m);
-    let y = figures_of(ys, 0, s.ytop);
+    let y = waiting_extent(ys, 0, s.ytop);
     let v = Slot {
         size: y.size + (m - from),
         scope: larger(z.scope, y.scope),
@@ -236,7 +245,7 @@ fn app_turn(
         shift: s.shift,
         cut: s.cut,
     };
-    note(ys, s.ytop, v);
+    store_slot(ys, s.ytop, v);
     let o = Copying {
         top: s.top,
         ytop: s.ytop + 1,
@@ -248,20 +257,20 @@ fn app_turn(
         next: s.next,
         comparisons: s.comparisons,
     };
-    on(o)
+    go_on(o)
 }
 
 // (xii): [U] takes the last of Y; U ends at m.
-fn abs_yet(
+fn pair_from_y(
     file: &[u8],
     t: &[u8],
-    work: &mut [u8; 8192],
-    ws: &[u16; 28672],
-    ys: &[u16; 28672],
+    work: &mut Work,
+    ws: &Queue,
+    ys: &Queue,
     base: usize,
     place: usize,
     s: Copying,
-    starts: &[u16; 253],
+    starts: &Starts,
     len: usize,
     end: usize,
     m: usize,
@@ -269,8 +278,8 @@ fn abs_yet(
     requires { ⌜ AbsReady (now file) (now t) (now work) (now ws) (now ys) base s (recordOf (now starts) len end) m × (0 < s .ytop) ⌝ }
     ensures { λ r. ⌜ Ruled (now (file .entry)) (now (t .entry)) (now (work .entry)) (now (work .exit)) (now (ws .entry)) (now (ys .entry)) (now (ys .entry)) base place s (recordOf (now (starts .entry)) len end) (entering r (recordOf (now (starts .entry)) len end)) ⌝ }
 {
-    let a = put_yet(work, ys, s.ytop, len, end, end);
-    let b = put_seen(work, 0xff, s.from + 1, m, a, s.shift, s.cut, 0);
+    let a = write_last_of_y(work, ys, s.ytop, len, end, end);
+    let b = write_from_work(work, 0xff, s.from + 1, m, a, s.shift, s.cut, 0);
     let o = Copying {
         top: s.top,
         ytop: s.ytop - 1,
@@ -282,20 +291,20 @@ fn abs_yet(
         next: s.next,
         comparisons: s.comparisons,
     };
-    with_end(on(o), b)
+    with_end(go_on(o), b)
 }
 
 // (x): nothing waits.
-fn abs_alone(
+fn enter_alone(
     file: &[u8],
     t: &[u8],
-    work: &mut [u8; 8192],
-    ws: &[u16; 28672],
-    ys: &[u16; 28672],
+    work: &mut Work,
+    ws: &Queue,
+    ys: &Queue,
     base: usize,
     place: usize,
     s: Copying,
-    starts: &[u16; 253],
+    starts: &Starts,
     len: usize,
     end: usize,
     m: usize,
@@ -303,7 +312,7 @@ fn abs_alone(
     requires { ⌜ AbsReady (now file) (now t) (now work) (now ws) (now ys) base s (recordOf (now starts) len end) m × (s .ytop ≤ 0) × (s .top ≡ base) ⌝ }
     ensures { λ r. ⌜ Ruled (now (file .entry)) (now (t .entry)) (now (work .entry)) (now (work .exit)) (now (ws .entry)) (now (ys .entry)) (now (ys .entry)) base place s (recordOf (now (starts .entry)) len end) (entering r (recordOf (now (starts .entry)) len end)) ⌝ }
 {
-    let b = put_seen(work, 0xff, s.from + 1, m, end, s.shift, s.cut, 0);
+    let b = write_from_work(work, 0xff, s.from + 1, m, end, s.shift, s.cut, 0);
     let o = Copying {
         top: s.top,
         ytop: s.ytop,
@@ -315,16 +324,16 @@ fn abs_alone(
         next: s.next,
         comparisons: s.comparisons,
     };
-    with_end(on(o), b)
+    with_end(go_on(o), b)
 }
 
 // (xi): [U] takes the last of W, and is compared.
-fn abs_wait(
+fn pair_from_w(
     file: &[u8],
     t: &[u8],
-    work: &mut [u8; 8192],
-    ws: &[u16; 28672],
-    ys: &[u16; 28672],
+    work: &mut Work,
+    ws: &Queue,
+    ys: &Queue,
     left: &mut [u8; 4096],
     right: &mut [u8; 4096],
     base: usize,
@@ -337,12 +346,12 @@ fn abs_wait(
     ensures { λ r. ⌜ Ruled (now (file .entry)) (now (t .entry)) (now (work .entry)) (now (work .exit)) (now (ws .entry)) (now (ys .entry)) (now (ys .entry)) base place s f (entering r f) × Buffers (now (left .exit)) (now (right .exit)) ⌝ }
 {
     let to = f.end;
-    let a = put_wait(t, work, ws, base, s.top, f.len, to);
-    let b = put_seen(work, 0xff, s.from + 1, m, a, s.shift, s.cut, 0);
+    let a = write_last_of_w(t, work, ws, base, s.top, f.len, to);
+    let b = write_from_work(work, 0xff, s.from + 1, m, a, s.shift, s.cut, 0);
     let q = compare(file, s.next, work, f, a, b, left, right);
-    if q.number != 0 {
+    if q.number != ACCEPTED {
         let v = slot_at(ws, s.top - 1);
-        return with_end(finish(q.number, v.place, s), to);
+        return with_end(stop_with(q.number, v.place, s), to);
     }
     let o = Copying {
         top: s.top - 1,
@@ -355,16 +364,16 @@ fn abs_wait(
         next: q.next,
         comparisons: s.comparisons + 1,
     };
-    with_end(on(o), b)
+    with_end(go_on(o), b)
 }
 
 fn abs_turn(
     file: &[u8],
-    tb: &[i32; 256],
+    deltas: &Deltas,
     t: &[u8],
-    work: &mut [u8; 8192],
-    ws: &[u16; 28672],
-    ys: &[u16; 28672],
+    work: &mut Work,
+    ws: &Queue,
+    ys: &Queue,
     left: &mut [u8; 4096],
     right: &mut [u8; 4096],
     base: usize,
@@ -372,12 +381,12 @@ fn abs_turn(
     s: Copying,
     f: FrameRecord,
 ) -> Entered
-    requires { ⌜ Tabled (now tb) × Ready (now file) (now t) (now work) (now ws) (now ys) base s f × (0xfe ≤ getD (now work) (s .from) 0) × (getD (now work) (s .from) 0 ≡ 0xfe → ⊥) × Buffers (now left) (now right) ⌝ }
+    requires { ⌜ Tabled (now deltas) × CopyReady (now file) (now t) (now work) (now ws) (now ys) base s f × (0xfe ≤ getD (now work) (s .from) 0) × (getD (now work) (s .from) 0 ≡ 0xfe → ⊥) × Buffers (now left) (now right) ⌝ }
     ensures { λ r. ⌜ Ruled (now (file .entry)) (now (t .entry)) (now (work .entry)) (now (work .exit)) (now (ws .entry)) (now (ys .entry)) (now (ys .entry)) base place s f (entering r f) × Buffers (now (left .exit)) (now (right .exit)) ⌝ }
 {
-    let m = end_of(tb, work, s.from + 1);
+    let m = end_of(deltas, work, s.from + 1);
     if 0 < s.ytop {
-        return abs_yet(
+        return pair_from_y(
             file,
             t,
             work,
@@ -393,7 +402,7 @@ fn abs_turn(
         );
     }
     if s.top == base {
-        return abs_alone(
+        return enter_alone(
             file,
             t,
             work,
@@ -408,25 +417,25 @@ fn abs_turn(
             m,
         );
     }
-    abs_wait(file, t, work, ws, ys, left, right, base, place, s, f, m)
+    pair_from_w(file, t, work, ws, ys, left, right, base, place, s, f, m)
 }
 
 // A turn that leaves the frame as it is: (vi), (viii) or (ix).
-fn near_turn(
+fn turn_in_frame(
     file: &[u8],
-    tb: &[i32; 256],
+    deltas: &Deltas,
     t: &[u8],
-    work: &[u8; 8192],
-    ws: &[u16; 28672],
-    ys: &mut [u16; 28672],
+    work: &Work,
+    ws: &Queue,
+    ys: &mut Queue,
     base: usize,
     place: usize,
     s: Copying,
-    starts: &[u16; 253],
+    starts: &Starts,
     len: usize,
     end: usize,
-) -> Near
-    requires { ⌜ Tabled (now tb) × Ready (now file) (now t) (now work) (now ws) (now ys) base s (recordOf (now starts) len end) × (getD (now work) (s .from) 0 ≤ 0xfe) ⌝ }
+) -> FrameKept
+    requires { ⌜ Tabled (now deltas) × CopyReady (now file) (now t) (now work) (now ws) (now ys) base s (recordOf (now starts) len end) × (getD (now work) (s .from) 0 ≤ 0xfe) ⌝ }
     ensures { λ r. ⌜ Ruled (now (file .entry)) (now (t .entry)) (now (work .entry)) (now (work .entry)) (now (ws .entry)) (now (ys .entry)) (now (ys .exit)) base place s (recordOf (now (starts .entry)) len end) (withFrame r (recordOf (now (starts .entry)) len end)) ⌝ }
 {
     let from = s.from;
@@ -435,27 +444,53 @@ fn near_turn(
         return tau_turn(file, t, work, ws, ys, base, place, s, starts, len, end);
     }
     if b < 0xfe {
-        return var_turn(file, tb, t, work, ws, ys, base, place, s, starts, len, end);
+        return var_turn(
+            file,
+            deltas,
+            t,
+            work,
+            ws,
+            ys,
+            base,
+            place,
+            s,
+            starts,
+            len,
+            end,
+        );
     }
-    app_turn(file, tb, t, work, ws, ys, base, place, s, starts, len, end)
+    app_turn(
+        file,
+        deltas,
+        t,
+        work,
+        ws,
+        ys,
+        base,
+        place,
+        s,
+        starts,
+        len,
+        end,
+    )
 }
 
 // Turns until an abstractor, or the end. The frame is lent in its parts: no turn copies it.
-fn settle(
+fn turns_to_abstractor(
     file: &[u8],
-    tb: &[i32; 256],
+    deltas: &Deltas,
     t: &[u8],
-    work: &[u8; 8192],
-    ws: &[u16; 28672],
-    ys: &mut [u16; 28672],
+    work: &Work,
+    ws: &Queue,
+    ys: &mut Queue,
     base: usize,
     place: usize,
     s: Copying,
-    starts: &[u16; 253],
+    starts: &Starts,
     len: usize,
     end: usize,
-) -> Near
-    requires { ⌜ Tabled (now tb) × Stated (now file) (now t) (now work) (now ws) (now ys) base s (recordOf (now starts) len end) ⌝ }
+) -> FrameKept
+    requires { ⌜ Tabled (now deltas) × Stated (now file) (now t) (now work) (now ws) (now ys) base s (recordOf (now starts) len end) ⌝ }
     ensures { λ r. ⌜ Settles (now (file .entry)) (now (t .entry)) (now (work .entry)) (now (ws .entry)) (now (ys .entry)) (now (ys .exit)) base place s (recordOf (now (starts .entry)) len end) r ⌝ }
 {
     let mut z = s;
@@ -472,13 +507,26 @@ fn settle(
             z.scope,
         );
         if !ok {
-            return finish(11, place, z);
+            return stop_with(OUTGROWN, place, z);
         }
         let from = z.from;
         if work[from] > 0xfe {
-            return on(z);
+            return go_on(z);
         }
-        let r = near_turn(file, tb, t, work, ws, ys, base, place, z, starts, len, end);
+        let r = turn_in_frame(
+            file,
+            deltas,
+            t,
+            work,
+            ws,
+            ys,
+            base,
+            place,
+            z,
+            starts,
+            len,
+            end,
+        );
         if !r.going {
             return r;
         }
@@ -490,21 +538,21 @@ fn settle(
 // Copied text, from a state on. The frame is lent in its parts, and grows in a record of this function.
 pub fn copied(
     file: &[u8],
-    tb: &[i32; 256],
+    deltas: &Deltas,
     t: &[u8],
-    work: &mut [u8; 8192],
-    ws: &[u16; 28672],
-    ys: &mut [u16; 28672],
+    work: &mut Work,
+    ws: &Queue,
+    ys: &mut Queue,
     left: &mut [u8; 4096],
     right: &mut [u8; 4096],
     base: usize,
     place: usize,
     s: Copying,
-    starts: &[u16; 253],
+    starts: &Starts,
     len: usize,
     end: usize,
 ) -> Walked
-    requires { ⌜ Tabled (now tb) × Stated (now file) (now t) (now work) (now ws) (now ys) base s (recordOf (now starts) len end) × Buffers (now left) (now right) ⌝ }
+    requires { ⌜ Tabled (now deltas) × Stated (now file) (now t) (now work) (now ws) (now ys) base s (recordOf (now starts) len end) × Buffers (now left) (now right) ⌝ }
     ensures { λ r. ⌜ Copies (now (file .entry)) (now (t .entry)) (now (work .entry)) (now (work .exit)) (now (ws .entry)) (now (ys .entry)) (now (ys .exit)) base place s (recordOf (now (starts .entry)) len end) r × Buffers (now (left .exit)) (now (right .exit)) ⌝ }
 {
     let mut z = s;
@@ -515,9 +563,9 @@ pub fn copied(
         end,
     };
     loop {
-        let r = settle(
+        let r = turns_to_abstractor(
             file,
-            tb,
+            deltas,
             t,
             work,
             ws,
@@ -533,7 +581,20 @@ pub fn copied(
             return r.out;
         }
         let a = r.state;
-        let q = abs_turn(file, tb, t, work, ws, ys, left, right, base, place, a, g);
+        let q = abs_turn(
+            file,
+            deltas,
+            t,
+            work,
+            ws,
+            ys,
+            left,
+            right,
+            base,
+            place,
+            a,
+            g,
+        );
         if !q.going {
             return q.out;
         }

@@ -19,9 +19,9 @@ use Rattle.code.specs.Scope.{scope}
 use Rattle.code.proofs.RoundTrip.{length-encode, odd, encode-decode}
 use Rattle.code.proofs.FirstZero.{whole}
 use Rattle.code.proofs.Scope.{closed-coded}
-use Rattle.examine.specs.Inspect.{Fault, no-fault, beyond, deep, leftmost, indexFault, scopeFault, inspect, Examined, refused, accepted, judged, decoded, ended, examined, answerOf, termAnswer}
+use Rattle.examine.specs.Inspect.{Fault, no-fault, beyond, deep, leftmost, indexFault, scopeFault, inspect, Examined, refused, accepted, judged, decoded, ended, examined, termAnswerOf, termAnswer}
 use Rattle.examine.specs.declared.TermAnswer.{TermAnswer}
-use Rattle.examine.specs.Claims.{Accepted, Examining, repeated, Examples}
+use Rattle.examine.specs.Claims.{WellFormed, Examining, repeated, Examples}
 
 -- ---- No fault.
 -- A term's indices and abstractors are within the limits.
@@ -105,9 +105,9 @@ module _ (s : List ℕ) (h : length s ≤ longestTerm) where
   examined-whole e d = rw (le-leb (length s) longestTerm h, e, eq-eqb (length s) (length s) refl, d)
 
 -- The code's answer, where it is known what examining finds.
-pub answered : (s : List ℕ) {x : Examined} {r : TermAnswer} → examined s ≡ x → r ≡ answerOf x → r ≡ termAnswer s
+pub answered : (s : List ℕ) {x : Examined} {r : TermAnswer} → examined s ≡ x → r ≡ termAnswerOf x → r ≡ termAnswer s
 unfolding termAnswer
-answered s e q = q ∙ ap answerOf (sym e)
+answered s e q = q ∙ ap termAnswerOf (sym e)
 
 -- ---- What is accepted.
 module _ {t : Term} where
@@ -131,7 +131,7 @@ module _ {t : Term} where
   from-ended s none e = let z : _≡_ {A = ℕ} 0 1 = cc in absurd (omega arith)
   from-ended s (some p) e = from-test (eqb p (length s)) (decoded (decode s)) 3 p e .1
 
-  from-accepted : (s : List ℕ) → Bytes s → examined s ≡ accepted t → Accepted s t
+  from-accepted : (s : List ℕ) → Bytes s → examined s ≡ accepted t → WellFormed s t
   unfolding examined
   from-accepted s w e =
       let p = from-test (leb (length s) longestTerm) (ended s (termEnd s 0)) 4 0 e in
@@ -141,7 +141,7 @@ module _ {t : Term} where
       let v = within 0 0 t (omega arith) (q .1) in
       record { decodes = q .0; short = omega (arith, ap length (h .bytes), length-encode t); closed = v .closed; shallow = omega (arith, v .shallow) }
 
-  to-accepted : (s : List ℕ) → Bytes s → Accepted s t → examined s ≡ accepted t
+  to-accepted : (s : List ℕ) → Bytes s → WellFormed s t → examined s ≡ accepted t
   unfolding judged
   to-accepted s w a =
       let h = encode-decode s t w (a .decodes) in
@@ -181,31 +181,31 @@ pub numbers : (s : List ℕ) {n p : ℕ} → examined s ≡ refused n p → (3 �
 numbers s e = rw e at (known s)
 
 pub number-zero : (s : List ℕ) → termAnswer s .number ≡ 0 → (t : Term) × (examined s ≡ accepted t)
-unfolding termAnswer answerOf
+unfolding termAnswer termAnswerOf
 number-zero s e = go (examined s) refl e
   where
-    go : (x : Examined) → examined s ≡ x → answerOf x .number ≡ 0 → (t : Term) × (x ≡ accepted t)
+    go : (x : Examined) → examined s ≡ x → termAnswerOf x .number ≡ 0 → (t : Term) × (x ≡ accepted t)
     go (refused n p) q z = absurd (omega (arith, numbers s q .0))
     go (accepted t) q z = (t, refl)
 
 -- For a caller of `examine_term`: what its answer r says.
 pub record Accepting (s : List ℕ) (r : TermAnswer) : Type 0 where
   pub term : Term
-  pub accepts : Accepted s term
+  pub accepts : WellFormed s term
   pub degree-is : r .degree ≡ degree ε term
 
 pub accepted-answer : (s : List ℕ) {r : TermAnswer} → Bytes s → r ≡ termAnswer s → r .number ≡ 0 → Accepting s r
-unfolding termAnswer answerOf
+unfolding termAnswer termAnswerOf
 accepted-answer s {r} w q e =
     let n : termAnswer s .number ≡ 0 = rw q at e in
     let p = number-zero s n in
     record { term = p .0; accepts = from-accepted s w (p .1); degree-is = rw (q, p .1) }
 
 pub refused-answer : (s : List ℕ) {r : TermAnswer} → r ≡ termAnswer s → (r .number ≡ 0 → ⊥) → (examined s ≡ refused (r .number) (r .place)) × (r .degree ≡ 0)
-unfolding termAnswer answerOf
+unfolding termAnswer termAnswerOf
 refused-answer s {r} q n = go (examined s) q
   where
-    go : (x : Examined) → r ≡ answerOf x → (x ≡ refused (r .number) (r .place)) × (r .degree ≡ 0)
+    go : (x : Examined) → r ≡ termAnswerOf x → (x ≡ refused (r .number) (r .place)) × (r .degree ≡ 0)
     go (refused a b) e = (rw e, rw e)
     go (accepted t) e = absurd (n (rw e))
 

@@ -18,7 +18,7 @@ use Rattle.code.specs.Claims.{Stands}
 use Rattle.code.proofs.RoundTrip.{length-encode, encode-decode}
 use Rattle.code.proofs.FirstZero.{whole}
 use Rattle.code.proofs.Parts.{head}
-use Rattle.examine.specs.Inspect.{Fault, no-fault, beyond, deep, leftmost, inspect, refused, accepted, judged, examined, answerOf, termAnswer}
+use Rattle.examine.specs.Inspect.{Fault, no-fault, beyond, deep, leftmost, inspect, refused, accepted, judged, examined, termAnswerOf, termAnswer}
 use Rattle.examine.specs.declared.TermAnswer.{TermAnswer}
 use Rattle.examine.specs.Contracts.{ByteFault, Graded, Parts}
 use Rattle.examine.proofs.Laws.{examined-whole, answered}
@@ -76,7 +76,7 @@ unfoldable pub accepting : ℕ → TermAnswer
 accepting d = record { number = 0; place = 0; degree = d }
 
 pub ends : {s outside opens degrees : List ℕ} {sp last i : ℕ} → Running s outside opens degrees sp last i → length s ≤ i → accepting last ≡ termAnswer s
-unfolding accepting judged answerOf
+unfolding accepting judged termAnswerOf
 ends {s} v h =
     let p = pending-none (v .pending) h in
     answered s {x = accepted (v .term)} (v .found-whole ∙ rw (p .0)) (ap accepting (p .1))
@@ -119,7 +119,7 @@ module _ {s outside opens degrees : List ℕ} {sp last i : ℕ} (v : Running s o
   pub depth-small : getD outside (sp - 1) 0 + getD opens (sp - 1) 0 ≤ mostAbstractors
   depth-small = depth-pending (sp - 1) top
 
-  pub stops : {r : ℕ} {x : TermAnswer} → ByteFault (getD s i 0) (getD outside (sp - 1) 0 + getD opens (sp - 1) 0) r → (r ≡ 0 → ⊥) → x ≡ answerOf (refused r i) → x ≡ termAnswer s
+  pub stops : {r : ℕ} {x : TermAnswer} → ByteFault (getD s i 0) (getD outside (sp - 1) 0 + getD opens (sp - 1) 0) r → (r ≡ 0 → ⊥) → x ≡ termAnswerOf (refused r i) → x ≡ termAnswer s
   stops ts z = answered s (v .found-whole ∙ refused-pending (sp - 1) (v .term) top ts z)
 
   module _ {at : ℕ} (q : at ≡ getD outside (sp - 1) 0) where

@@ -13,7 +13,7 @@ use Rattle.code.specs.Scope.{scope}
 use Rattle.examine.specs.Inspect.{no-fault, inspect, refused, accepted, examined, termAnswer}
 
 -- What is asked of a string s for t to be accepted.
-pub record Accepted (s : List ℕ) (t : Term) : Type 0 where
+pub record WellFormed (s : List ℕ) (t : Term) : Type 0 where
   pub decodes : decode s ≡ some t
   pub short : size t ≤ longestTerm
   pub closed : Closed 0 t
@@ -21,7 +21,7 @@ pub record Accepted (s : List ℕ) (t : Term) : Type 0 where
 
 -- 1. What is accepted.
 pub record Examining : Type 0 where
-  pub accepts : (s : List ℕ) (t : Term) → Bytes s → (examined s ≡ accepted t) ↔ Accepted s t
+  pub accepts : (s : List ℕ) (t : Term) → Bytes s → (examined s ≡ accepted t) ↔ WellFormed s t
   pub faultless : (d i : ℕ) (t : Term) → d ≤ mostAbstractors → (inspect d i t ≡ no-fault) ↔ (Closed d t × (d + scope t ≤ mostAbstractors))
   pub coded : (s : List ℕ) (t : Term) → Bytes s → examined s ≡ accepted t → Coded t
   -- a refusal has one of the numbers 3 to 6

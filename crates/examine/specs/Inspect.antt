@@ -72,12 +72,12 @@ unfolding ended termEnd
 examined s = cond (leb (length s) longestTerm) (ended s (termEnd s 0)) (refused tooLong 0)
 
 -- Number, place and degree: number 0 if accepted, degree 0 if refused.
-unfoldable pub answerOf : Examined → TermAnswer
+unfoldable pub termAnswerOf : Examined → TermAnswer
 unfolding nth degreeIn degrees degree
-answerOf (refused n p) = record { number = n; place = p; degree = 0 }
-answerOf (accepted t) = record { number = 0; place = 0; degree = degree ε t }
+termAnswerOf (refused n p) = record { number = n; place = p; degree = 0 }
+termAnswerOf (accepted t) = record { number = 0; place = 0; degree = degree ε t }
 
 -- The answer of the call `examine_term`.
 unfoldable pub termAnswer : List ℕ → TermAnswer
-unfolding answerOf examined
-termAnswer s = answerOf (examined s)
+unfolding termAnswerOf examined
+termAnswer s = termAnswerOf (examined s)

@@ -6,7 +6,7 @@ ghost use Prim.Native.Nat.{ℕ, _+_, _≤_, _<_};
 ghost use lib.ListN.{length, getD};
 ghost use Rattle.code.specs.Limits.{longestTerm, mostAbstractors};
 ghost use Rattle.code.specs.Code.{termEnd};
-ghost use Rattle.examine.specs.Inspect.{refused, answerOf, termAnswer};
+ghost use Rattle.examine.specs.Inspect.{refused, termAnswerOf, termAnswer};
 ghost use Rattle.examine.specs.Contracts.{ByteFault, Graded, Parts};
 ghost use Rattle.examine.specs.Claims.{Examining, Examples};
 use code::numbers::ACCEPTED;
@@ -37,7 +37,7 @@ fn wide(x: u8) -> usize
 }
 
 fn refusal(number: u32, place: usize) -> TermAnswer
-    ensures { λ r. ⌜ r ≡ answerOf (refused number place) ⌝ }
+    ensures { λ r. ⌜ r ≡ termAnswerOf (refused number place) ⌝ }
 {
     TermAnswer {
         number,
@@ -141,8 +141,8 @@ pub fn examine_term(s: &[u8]) -> TermAnswer
     }
     let end = code::term_end(s, 0);
     match end {
-        code::End::Never => refusal(NOT_ONE_TERM, s.len()),
-        code::End::At(e) => {
+        code::TermEnd::Never => refusal(NOT_ONE_TERM, s.len()),
+        code::TermEnd::At(e) => {
             if e != s.len() {
                 return refusal(NOT_ONE_TERM, e);
             }

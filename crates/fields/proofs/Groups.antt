@@ -11,11 +11,11 @@ use borrow.Author.Tests.{leb-true, ltb-false}
 use Rattle.fields.specs.declared.Field.{Field}
 use Rattle.fields.specs.declared.Field.the-variants.{End}
 use Rattle.fields.specs.declared.Layout.{Layout}
-use Rattle.fields.specs.Fields.{bodyEnd, stepOf, stepsFrom, steps, GroupAt, spanAt, groupAt}
+use Rattle.fields.specs.Fields.{bodyEnd, readStep, stepsFrom, readSteps, GroupAt, spanAt, groupAt}
 use Rattle.code.specs.Limits.{longestFile}
-use Rattle.fields.specs.Fields.{Fields, refused, accepted, thenFields, withGroup, groupsFrom, readFile, layoutOf, termBytes}
-use Rattle.fields.specs.Fields.{Whole, GroupHere, Groups, done, more, StepRange, First, SpanOf}
-use Rattle.fields.specs.Claims.{Accepted, AcceptedLayout}
+use Rattle.fields.specs.Fields.{Fields, refused, accepted, thenFields, groupThen, groupsFrom, readFile, layoutOf, termBytes}
+use Rattle.fields.specs.Fields.{Whole, GroupHere, Groups, done, more, StepRange, First, GroupParts}
+use Rattle.fields.specs.Claims.{HasFields, AcceptedLayout}
 use Rattle.fields.proofs.Laws.{FieldView, fault, whole, field-view, GroupView, GroupEnded, group-view, here-ends, whole-ends, groups-done, groups-next, term-end}
 
 pub none-left : {s : List ℕ} {at : ℕ} {gs : List GroupAt} → Groups s at gs → length s ≤ at → gs ≡ []
@@ -31,12 +31,12 @@ room (done q) = omega arith
 room (more g r) = omega (arith, room r)
 
 -- Steps.
-pub no-step : (s : List ℕ) (at : ℕ) → steps s at at ≡ []
+pub no-step : (s : List ℕ) (at : ℕ) → readSteps s at at ≡ []
 unfolding stepsFrom
 no-step s at = let q : (at - at) / 3 ≡ 0 = omega arith in rw q
 
 pub next-step : {s : List ℕ} {from to : ℕ} → StepRange s from to → from < to
-    → (steps s from to ≡ stepOf s from ∷ steps s (from + 3) to) × StepRange s (from + 3) to
+    → (readSteps s from to ≡ readStep s from ∷ readSteps s (from + 3) to) × StepRange s (from + 3) to
 unfolding stepsFrom
 next-step {from = from} {to = to} r h =
     let q : (to - from) / 3 ≡ suc ((to - (from + 3)) / 3) = omega arith in
@@ -47,7 +47,7 @@ first : {s : List ℕ} {at : ℕ} {gs : List GroupAt} → GroupHere s at → Gro
 first h (done q) = absurd (omega (arith, h .left .head))
 first h (more {gs = gs} g r) = record { rest = gs; all = refl; follow = r }
 
-pub span-of : (s : List ℕ) (at : ℕ) → GroupHere s at → SpanOf s at (spanAt s at)
+pub span-of : (s : List ℕ) (at : ℕ) → GroupHere s at → GroupParts s at (spanAt s at)
 span-of s at g =
     record {
       is-span = refl;
@@ -62,8 +62,8 @@ data GroupsView (s : List ℕ) (e at : ℕ) : Fields → Type 0 where
   bad : {n p : ℕ} → (1 ≤ n) × (n ≤ 4) → GroupsView s e at (refused n p)
   good : {gs : List GroupAt} → Groups s at gs → GroupsView s e at (accepted e gs)
 
-with-group : {s : List ℕ} {e at m : ℕ} {F : Fields} → GroupEnded s at m → GroupsView s e m F → GroupsView s e at (withGroup (groupAt s at) F)
-unfolding withGroup
+with-group : {s : List ℕ} {e at m : ℕ} {F : Fields} → GroupEnded s at m → GroupsView s e m F → GroupsView s e at (groupThen (groupAt s at) F)
+unfolding groupThen
 with-group g (bad h) = bad h
 with-group {s = s} g (good {gs = gs} r) = good (more (g .here) (subst (λ (k : ℕ). Groups s k gs) (g .is-next) r))
 
@@ -73,7 +73,7 @@ groups-view zero s e at h i = good (done {at = at} (omega arith))
 groups-view (suc k) s e at h i = go (leb (length s) at) refl (group-view s at) (λ m l j. groups-view k s e m (omega arith) j)
   where
     go : (b : Bool) → leb (length s) at ≡ b → {f : Field} → GroupView s at f → ((m : ℕ) → at + 6 ≤ m → m ≤ length s → GroupsView s e m (groupsFrom k s e m))
-        → GroupsView s e at (cond b (accepted e []) (thenFields f (λ m. withGroup (groupAt s at) (groupsFrom k s e m))))
+        → GroupsView s e at (cond b (accepted e []) (thenFields f (λ m. groupThen (groupAt s at) (groupsFrom k s e m))))
     go true q v ih = good (done {at = at} (omega (arith, leb-true (length s) at q)))
     go false q (fault n) ih = bad n
     go false q (whole {e = m} g) ih = with-group g (ih m (g .longer) (g .inside))
@@ -81,7 +81,7 @@ groups-view (suc k) s e at h i = go (leb (length s) at) refl (group-view s at) (
 -- The same of a file.
 data FileView (s : List ℕ) : Fields → Type 0 where
   bad : {n p : ℕ} → (1 ≤ n) × (n ≤ 4) → FileView s (refused n p)
-  good : {e : ℕ} {gs : List GroupAt} → Accepted s e gs → FileView s (accepted e gs)
+  good : {e : ℕ} {gs : List GroupAt} → HasFields s e gs → FileView s (accepted e gs)
 
 file-view : (s : List ℕ) → FileView s (readFile s)
 unfolding readFile thenFields
@@ -99,19 +99,19 @@ file-view s = go (ltb longestFile (length s)) refl (field-view 1 1 s 0)
 
 -- All the groups that stand are read.
 groups-read : {s : List ℕ} {e at : ℕ} {gs : List GroupAt} (k : ℕ) → length s ≤ k + at → Groups s at gs → groupsFrom k s e at ≡ accepted e gs
-unfolding withGroup
+unfolding groupThen
 groups-read k h (done q) = groups-done _ _ k _ (omega arith)
 groups-read {s = s} {e = e} {at = at} k h (more {gs = gs} g r) =
-    groups-next s e k at h (omega (arith, g .left .head)) (here-ends s at g) ∙ ap (withGroup (groupAt s at)) (groups-read k (omega arith) r)
+    groups-next s e k at h (omega (arith, g .left .head)) (here-ends s at g) ∙ ap (groupThen (groupAt s at)) (groups-read k (omega arith) r)
 
-pub accepts : {s : List ℕ} {e : ℕ} {gs : List GroupAt} → Accepted s e gs → readFile s ≡ accepted e gs
+pub accepts : {s : List ℕ} {e : ℕ} {gs : List GroupAt} → HasFields s e gs → readFile s ≡ accepted e gs
 accepts {s = s} {e = e} a =
     term-end s (a .fits) (whole-ends 1 1 s 0 (a .term) ∙ ap End (sym (a .ends))) ∙ groups-read (length s) (omega arith) (a .groups)
 
-view-accepted : {s : List ℕ} {e : ℕ} {gs : List GroupAt} → FileView s (accepted e gs) → Accepted s e gs
+view-accepted : {s : List ℕ} {e : ℕ} {gs : List GroupAt} → FileView s (accepted e gs) → HasFields s e gs
 view-accepted (good a) = a
 
-pub accepted-only : (s : List ℕ) {e : ℕ} {gs : List GroupAt} → readFile s ≡ accepted e gs → Accepted s e gs
+pub accepted-only : (s : List ℕ) {e : ℕ} {gs : List GroupAt} → readFile s ≡ accepted e gs → HasFields s e gs
 accepted-only s q = view-accepted (subst (FileView s) q (file-view s))
 
 -- What the numbers of a file say of it.
@@ -154,8 +154,8 @@ inside s {r = r} e = go (layout-view s e)
     go (bad h q z) = omega arith
     go (good q a) = omega (arith, a .is .ends, a .is .term .body)
 
-pub term-length : {s : List ℕ} {e : ℕ} {gs : List GroupAt} → Accepted s e gs → 3 + length (termBytes s e) ≡ e
+pub term-length : {s : List ℕ} {e : ℕ} {gs : List GroupAt} → HasFields s e gs → 3 + length (termBytes s e) ≡ e
 term-length a = simp (length-take, length-drop) (omega (arith, a .ends, a .term .body))
 
-pub few : {s : List ℕ} {e : ℕ} {gs : List GroupAt} → Accepted s e gs → 3 < e → length gs ≤ 10921
+pub few : {s : List ℕ} {e : ℕ} {gs : List GroupAt} → HasFields s e gs → 3 < e → length gs ≤ 10921
 few a h = omega (arith, room (a .groups), a .fits)

@@ -12,7 +12,7 @@ use Rattle.fields.specs.declared.Field.{Field}
 use Rattle.fields.specs.declared.Field.the-variants.{Fault, End}
 use Rattle.fields.specs.Fields.{readFile, word, bodyEnd, fieldAt, thenField, groupEnd, GroupAt, spanAt, groupAt, Fields, refused, accepted}
 use Rattle.code.specs.Limits.{longestFile}
-use Rattle.fields.specs.Fields.{thenFields, withGroup, groupsFrom, layoutWith, Whole, GroupHere}
+use Rattle.fields.specs.Fields.{thenFields, groupThen, groupsFrom, layoutWith, Whole, GroupHere}
 
 -- One field.
 module _ (tag unit : ℕ) (s : List ℕ) (at : ℕ) where
@@ -117,14 +117,14 @@ module _ (s : List ℕ) (e : ℕ) where
   groups-done (suc k) at h = simp (le-leb _ _ h)
 
   after : (k at : ℕ) → ((m : ℕ) → at + 6 ≤ m → groupsFrom k s e m ≡ groupsFrom (suc k) s e m)
-      → thenFields (groupEnd s at) (λ m. withGroup (groupAt s at) (groupsFrom k s e m)) ≡ thenFields (groupEnd s at) (λ m. withGroup (groupAt s at) (groupsFrom (suc k) s e m))
+      → thenFields (groupEnd s at) (λ m. groupThen (groupAt s at) (groupsFrom k s e m)) ≡ thenFields (groupEnd s at) (λ m. groupThen (groupAt s at) (groupsFrom (suc k) s e m))
   unfolding thenFields
   after k at same = go (group-view s at)
     where
       go : {f : Field} → GroupView s at f
-          → thenFields f (λ m. withGroup (groupAt s at) (groupsFrom k s e m)) ≡ thenFields f (λ m. withGroup (groupAt s at) (groupsFrom (suc k) s e m))
+          → thenFields f (λ m. groupThen (groupAt s at) (groupsFrom k s e m)) ≡ thenFields f (λ m. groupThen (groupAt s at) (groupsFrom (suc k) s e m))
       go (fault h) = refl
-      go (whole {e = m} g) = ap (withGroup (groupAt s at)) (same m (g .longer))
+      go (whole {e = m} g) = ap (groupThen (groupAt s at)) (same m (g .longer))
 
   one-more : (k at : ℕ) → length s ≤ k + at → groupsFrom k s e at ≡ groupsFrom (suc k) s e at
   unfolding groupsFrom
@@ -132,7 +132,7 @@ module _ (s : List ℕ) (e : ℕ) where
   one-more (suc k) at h = ap (cond (leb (length s) at) (accepted e [])) (after k at (λ m l. one-more k m (omega arith)))
 
   pub groups-step : (k at : ℕ) → length s ≤ k + at → at < length s
-      → groupsFrom k s e at ≡ thenFields (groupEnd s at) (λ m. withGroup (groupAt s at) (groupsFrom k s e m))
+      → groupsFrom k s e at ≡ thenFields (groupEnd s at) (λ m. groupThen (groupAt s at) (groupsFrom k s e m))
   unfolding groupsFrom
   groups-step zero at h l = absurd (omega arith)
   groups-step (suc k) at h l = rw (lt-leb _ _ l) (after k at (λ m i. one-more k m (omega arith)))
@@ -142,13 +142,13 @@ module _ (s : List ℕ) (e : ℕ) where
   groups-fault k at h l q = groups-step k at h l ∙ rw q
 
   pub groups-next : {m : ℕ} (k at : ℕ) → length s ≤ k + at → at < length s → groupEnd s at ≡ End m
-      → groupsFrom k s e at ≡ withGroup (groupAt s at) (groupsFrom k s e m)
+      → groupsFrom k s e at ≡ groupThen (groupAt s at) (groupsFrom k s e m)
   unfolding thenFields
   groups-next k at h l q = groups-step k at h l ∙ rw q
 
 -- A group more in the list, or counted before.
-pub layout-group : (n : ℕ) (g : GroupAt) (F : Fields) → layoutWith n (withGroup g F) ≡ layoutWith (n + 1) F
-unfolding withGroup
+pub layout-group : (n : ℕ) (g : GroupAt) (F : Fields) → layoutWith n (groupThen g F) ≡ layoutWith (n + 1) F
+unfolding groupThen
 layout-group n g (refused k p) = refl
 layout-group n g (accepted e gs) = let q : n + suc (length gs) ≡ n + 1 + length gs = omega arith in rw q
 

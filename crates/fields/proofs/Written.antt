@@ -10,11 +10,11 @@ use lib.ListN.{length, getD, take, drop, length-append, length-take, length-drop
 use lib.Seq.{drop-cons, getD-drop, drop-drop, take-append-seam, drop-append-seam}
 use Rattle.calculus.specs.Steps.{Step}
 use Rattle.calculus.specs.Rules.{Group}
-use Rattle.fields.specs.Fields.{word, bodyEnd, stepOf, stepsFrom, steps, GroupAt, spanAt, groupAt, groupIn, accepted, readFile, termBytes}
+use Rattle.fields.specs.Fields.{word, bodyEnd, readStep, stepsFrom, readSteps, GroupAt, spanAt, groupAt, groupIn, accepted, readFile, termBytes}
 use Rattle.code.specs.Limits.{longestFile}
 use Rattle.fields.specs.Fields.{Whole, GroupHere, Groups, done, more}
-use Rattle.fields.specs.Files.{writeField, writeSteps, writeGroups, writeFile, placed, InBytes, StepsFit, none, step, GroupsFit, group}
-use Rattle.fields.specs.Claims.{Accepted}
+use Rattle.fields.specs.Files.{writeField, writeSteps, writeGroups, writeFile, groupsPlaced, InBytes, StepsFit, none, step, GroupsFit, group}
+use Rattle.fields.specs.Claims.{HasFields}
 use Rattle.fields.proofs.Groups.{accepts, accepted-only}
 
 -- What s holds from a place on.
@@ -74,7 +74,7 @@ steps-back (x ∷ xs) w {s = s} {at = at} h =
 
 -- A field of steps.
 record Steps (xs : List Step) (s : List ℕ) (at : ℕ) : Type 0 where
-  back : steps s (at + 3) (bodyEnd s at) ≡ xs
+  back : readSteps s (at + 3) (bodyEnd s at) ≡ xs
   multiple : length (writeSteps xs) % 3 ≡ 0
 
 steps-there : {tag : ℕ} (xs : List Step) (w : List ℕ) {s : List ℕ} {at : ℕ} → Written tag (writeSteps xs) w s at → Steps xs s at
@@ -83,8 +83,8 @@ steps-there xs w {s = s} {at = at} f =
     record { back = rw n (steps-back xs w (f .body)); multiple = omega (arith, steps-length xs) }
 
 -- Groups.
-groups-there : (gs : List Group) {s : List ℕ} {at : ℕ} → at ≤ length s → From s at (writeGroups gs) → Groups s at (placed at gs)
-unfolding writeGroups placed
+groups-there : (gs : List Group) {s : List ℕ} {at : ℕ} → at ≤ length s → From s at (writeGroups gs) → Groups s at (groupsPlaced at gs)
+unfolding writeGroups groupsPlaced
 groups-there [] {s = s} {at = at} i h = done {at = at} (omega (arith, sym (length-drop at s) ∙ ap length (h .is)))
 groups-there (g ∷ gs) {s = s} {at = at} i h =
     let a = writeSteps (g .left) in
@@ -96,24 +96,24 @@ groups-there (g ∷ gs) {s = s} {at = at} i h =
     let here : GroupHere s at = record { left = l .whole 3 (x .multiple); right = r .whole 3 (y .multiple) } in
     let n : spanAt s at .next ≡ at + 6 + length a + length b = omega (arith, l .ends, r .ends) in
     let q : groupAt s at ≡ record { head = at; group = g } = λ i. record { head = at; group = record { left = x .back i; right = y .back i } } in
-    subst₂ (λ (z : GroupAt) (k : ℕ). Groups s at (z ∷ placed k gs)) q n (more here (groups-there gs (here .right .body) (r .rest)))
+    subst₂ (λ (z : GroupAt) (k : ℕ). Groups s at (z ∷ groupsPlaced k gs)) q n (more here (groups-there gs (here .right .body) (r .rest)))
 
 pub read-back : (b : List ℕ) (gs : List Group) → length (writeFile b gs) ≤ longestFile
-    → readFile (writeFile b gs) ≡ accepted (3 + length b) (placed (3 + length b) gs)
+    → readFile (writeFile b gs) ≡ accepted (3 + length b) (groupsPlaced (3 + length b) gs)
 unfolding writeFile
 read-back b gs h =
     let w = written b (writeGroups gs) {s = writeField 1 b ++ writeGroups gs} {at = 0} (record { is = refl }) in
     let t = w .whole 1 (omega arith) in
     let q : bodyEnd (writeField 1 b ++ writeGroups gs) 0 ≡ 3 + length b = omega (arith, w .ends) in
-    accepts (subst (λ (e : ℕ). Accepted (writeField 1 b ++ writeGroups gs) e (placed e gs)) q
+    accepts (subst (λ (e : ℕ). HasFields (writeField 1 b ++ writeGroups gs) e (groupsPlaced e gs)) q
     (record { fits = h; term = t; ends = refl; groups = groups-there gs (t .body) (w .rest) }))
 
 pub same-term : (b : List ℕ) (gs : List Group) → termBytes (writeFile b gs) (3 + length b) ≡ b
 unfolding writeFile
 same-term b gs = let q : 3 + length b - 3 ≡ length b = omega arith in rw q (take-append-seam b (writeGroups gs))
 
-pub same-groups : (at : ℕ) (gs : List Group) → map (λ (g : GroupAt). g .group) (placed at gs) ≡ gs
-unfolding placed
+pub same-groups : (at : ℕ) (gs : List Group) → map (λ (g : GroupAt). g .group) (groupsPlaced at gs) ≡ gs
+unfolding groupsPlaced
 same-groups at [] = refl
 same-groups at (g ∷ gs) = ap (λ (l : List Group). g ∷ l) (same-groups _ gs)
 
@@ -150,7 +150,7 @@ module _ (s : List ℕ) (small : InBytes s) where
       let g = w .tagged in
       cc
 
-  group-only : {tag at : ℕ} → Whole tag 3 s at → drop at s ≡ writeField tag (writeSteps (steps s (at + 3) (bodyEnd s at))) ++ drop (bodyEnd s at) s
+  group-only : {tag at : ℕ} → Whole tag 3 s at → drop at s ≡ writeField tag (writeSteps (readSteps s (at + 3) (bodyEnd s at))) ++ drop (bodyEnd s at) s
   group-only {at = at} w =
       let k = (bodyEnd s at - (at + 3)) / 3 in
       let q : 3 * k ≡ word s (at + 1) = omega (arith, w .multiple) in
@@ -167,7 +167,7 @@ module _ (s : List ℕ) (small : InBytes s) where
   steps-fit : (n at : ℕ) → StepsFit (stepsFrom n s at)
   unfolding stepsFrom word
   steps-fit zero at = none
-  steps-fit (suc n) at = step {x = stepOf s at} (small .small at) (omega (arith, small .small (at + 1), small .small (at + 1 + 1))) (steps-fit n (at + 3))
+  steps-fit (suc n) at = step {x = readStep s at} (small .small at) (omega (arith, small .small (at + 1), small .small (at + 1 + 1))) (steps-fit n (at + 3))
 
   groups-fit : {at : ℕ} {gs : List GroupAt} → Groups s at gs → GroupsFit (map (λ (g : GroupAt). g .group) gs)
   groups-fit (done q) = none

@@ -7,13 +7,13 @@ use mathlib.Core.List.{List, [], _∷_, map}
 use lib.ListN.{length}
 use Rattle.calculus.specs.Rules.{Group}
 use Rattle.fields.specs.declared.Layout.{Layout}
-use Rattle.fields.specs.Fields.{bodyEnd, stepOf, steps, GroupAt, refused, accepted}
+use Rattle.fields.specs.Fields.{bodyEnd, readStep, readSteps, GroupAt, refused, accepted}
 use Rattle.code.specs.Limits.{longestFile}
 use Rattle.fields.specs.Fields.{readFile, layoutOf, termBytes, Whole, GroupHere, Groups, StepRange}
-use Rattle.fields.specs.Files.{writeFile, placed, InBytes, GroupsFit}
+use Rattle.fields.specs.Files.{writeFile, groupsPlaced, InBytes, GroupsFit}
 
 -- The file s has its term's body up to e and the groups gs.
-pub record Accepted (s : List ℕ) (e : ℕ) (gs : List GroupAt) : Type 0 where
+pub record HasFields (s : List ℕ) (e : ℕ) (gs : List GroupAt) : Type 0 where
   pub fits : length s ≤ longestFile
   pub term : Whole 1 1 s 0
   pub ends : e ≡ bodyEnd s 0
@@ -24,32 +24,32 @@ pub record AcceptedLayout (s : List ℕ) (r : Layout) : Type 0 where
   pub place : r .place ≡ 0
   pub list : List GroupAt
   pub counted : r .groups ≡ length list
-  pub is : Accepted s (r .end) list
+  pub is : HasFields s (r .end) list
 
 -- 1. Which files are accepted, and how their groups and steps follow one another.
 pub record Reading : Type 0 where
-  pub exactly : (s : List ℕ) (e : ℕ) (gs : List GroupAt) → (readFile s ≡ accepted e gs) ↔ Accepted s e gs
+  pub exactly : (s : List ℕ) (e : ℕ) (gs : List GroupAt) → (readFile s ≡ accepted e gs) ↔ HasFields s e gs
   pub if-accepted : (s : List ℕ) {r : Layout} → r ≡ layoutOf (readFile s) → r .number ≡ 0 → AcceptedLayout s r
   pub if-refused : (s : List ℕ) {r : Layout} → r ≡ layoutOf (readFile s) → (r .number ≡ 0 → ⊥)
       → (readFile s ≡ refused (r .number) (r .place)) × (r .end ≡ 0)
   -- a refusal has one of the numbers 1, 2 and 4
   pub numbers : (s : List ℕ) {n p : ℕ} → readFile s ≡ refused n p → (1 ≤ n) × (n ≤ 4)
   pub inside : (s : List ℕ) {r : Layout} → r ≡ layoutOf (readFile s) → r .end ≤ length s
-  pub term-length : {s : List ℕ} {e : ℕ} {gs : List GroupAt} → Accepted s e gs → 3 + length (termBytes s e) ≡ e
+  pub term-length : {s : List ℕ} {e : ℕ} {gs : List GroupAt} → HasFields s e gs → 3 + length (termBytes s e) ≡ e
   pub room : {s : List ℕ} {at : ℕ} {gs : List GroupAt} → Groups s at gs → at + 6 * length gs ≤ length s
-  pub few : {s : List ℕ} {e : ℕ} {gs : List GroupAt} → Accepted s e gs → 3 < e → length gs ≤ 10921
+  pub few : {s : List ℕ} {e : ℕ} {gs : List GroupAt} → HasFields s e gs → 3 < e → length gs ≤ 10921
   pub none-left : {s : List ℕ} {at : ℕ} {gs : List GroupAt} → Groups s at gs → length s ≤ at → gs ≡ []
   pub some-left : {s : List ℕ} {at : ℕ} {gs : List GroupAt} → Groups s at gs → at < length s → GroupHere s at
-  pub no-step : (s : List ℕ) (at : ℕ) → steps s at at ≡ []
+  pub no-step : (s : List ℕ) (at : ℕ) → readSteps s at at ≡ []
   pub next-step : {s : List ℕ} {from to : ℕ} → StepRange s from to → from < to
-      → (steps s from to ≡ stepOf s from ∷ steps s (from + 3) to) × StepRange s (from + 3) to
+      → (readSteps s from to ≡ readStep s from ∷ readSteps s (from + 3) to) × StepRange s (from + 3) to
 
 -- 2. A file that is written is read back; and every accepted file is one that is written.
 pub record Writing : Type 0 where
   pub read-back : (b : List ℕ) (gs : List Group) → length (writeFile b gs) ≤ longestFile
-      → readFile (writeFile b gs) ≡ accepted (3 + length b) (placed (3 + length b) gs)
+      → readFile (writeFile b gs) ≡ accepted (3 + length b) (groupsPlaced (3 + length b) gs)
   pub same-term : (b : List ℕ) (gs : List Group) → termBytes (writeFile b gs) (3 + length b) ≡ b
-  pub same-groups : (at : ℕ) (gs : List Group) → map (λ g. g .group) (placed at gs) ≡ gs
+  pub same-groups : (at : ℕ) (gs : List Group) → map (λ g. g .group) (groupsPlaced at gs) ≡ gs
   pub in-bytes : (b : List ℕ) (gs : List Group) → length (writeFile b gs) ≤ longestFile → InBytes b → GroupsFit gs → InBytes (writeFile b gs)
   pub only-written : {s : List ℕ} {e : ℕ} {gs : List GroupAt} → InBytes s → readFile s ≡ accepted e gs → s ≡ writeFile (termBytes s e) (map (λ g. g .group) gs)
   pub fitting : {s : List ℕ} {e : ℕ} {gs : List GroupAt} → InBytes s → readFile s ≡ accepted e gs → GroupsFit (map (λ g. g .group) gs)

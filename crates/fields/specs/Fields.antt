@@ -43,16 +43,16 @@ unfoldable pub groupEnd : List ℕ → ℕ → Field
 groupEnd s at = thenField (fieldAt 2 3 s at) (fieldAt 3 3 s)
 
 -- The step in three bytes, and n steps from a place.
-abbrev pub stepOf : List ℕ → ℕ → Step
-stepOf s at = record { kind = getD s at 0; place = word s (at + 1) }
+abbrev pub readStep : List ℕ → ℕ → Step
+readStep s at = record { kind = getD s at 0; place = word s (at + 1) }
 
 unfoldable pub stepsFrom : ℕ → List ℕ → ℕ → List Step
 stepsFrom zero s at = []
-stepsFrom (suc n) s at = stepOf s at ∷ stepsFrom n s (at + 3)
+stepsFrom (suc n) s at = readStep s at ∷ stepsFrom n s (at + 3)
 
 -- The steps that stand from one place up to another.
-abbrev pub steps : List ℕ → ℕ → ℕ → List Step
-steps s from to = stepsFrom ((to - from) / 3) s from
+abbrev pub readSteps : List ℕ → ℕ → ℕ → List Step
+readSteps s from to = stepsFrom ((to - from) / 3) s from
 
 -- A group and the place of its tag 2 head in the file.
 pub record GroupAt : Type 0 where
@@ -66,7 +66,7 @@ spanAt s at =
     record { left = at + 3; middle = m; right = m + 3; next = bodyEnd s m }
 
 abbrev pub groupIn : List ℕ → GroupSpan → Group
-groupIn s g = record { left = steps s (g .left) (g .middle); right = steps s (g .right) (g .next) }
+groupIn s g = record { left = readSteps s (g .left) (g .middle); right = readSteps s (g .right) (g .next) }
 
 abbrev pub groupAt : List ℕ → ℕ → GroupAt
 groupAt s at = record { head = at; group = groupIn s (spanAt s at) }
@@ -80,19 +80,19 @@ unfoldable pub thenFields : Field → (ℕ → Fields) → Fields
 thenFields (Fault n p) f = refused n p
 thenFields (End e) f = f e
 
-unfoldable pub withGroup : GroupAt → Fields → Fields
-withGroup g (refused n p) = refused n p
-withGroup g (accepted e gs) = accepted e (g ∷ gs)
+unfoldable pub groupThen : GroupAt → Fields → Fields
+groupThen g (refused n p) = refused n p
+groupThen g (accepted e gs) = accepted e (g ∷ gs)
 
 -- The groups from a place on, where the term's body ends at e. k bounds their number: that of the bytes left is enough.
 unfoldable pub groupsFrom : ℕ → List ℕ → ℕ → ℕ → Fields
 groupsFrom zero s e at = accepted e []
 groupsFrom (suc k) s e at =
-    cond (leb (length s) at) (accepted e []) (thenFields (groupEnd s at) (λ m. withGroup (groupAt s at) (groupsFrom k s e m)))
+    cond (leb (length s) at) (accepted e []) (thenFields (groupEnd s at) (λ m. groupThen (groupAt s at) (groupsFrom k s e m)))
 
 -- The file: its length, the term's field, the groups.
 unfoldable pub readFile : List ℕ → Fields
-unfolding word fieldAt thenField groupEnd stepsFrom thenFields withGroup groupsFrom
+unfolding word fieldAt thenField groupEnd stepsFrom thenFields groupThen groupsFrom
 readFile s = cond (ltb longestFile (length s)) (refused tooLong 0) (thenFields (fieldAt 1 1 s 0) (λ e. groupsFrom (length s) s e e))
 
 -- The same in numbers: number and place, the end of the term's body (0 where refused), and how many groups, n and those that follow.
@@ -137,7 +137,7 @@ pub record First (s : List ℕ) (at : ℕ) (r : GroupSpan) (gs : List GroupAt) :
   pub follow : Groups s (r .next) rest
 
 -- r has the parts of the group at a place, the first of those that stand from there on.
-pub record SpanOf (s : List ℕ) (at : ℕ) (r : GroupSpan) : Type 0 where
+pub record GroupParts (s : List ℕ) (at : ℕ) (r : GroupSpan) : Type 0 where
   pub is-span : r ≡ spanAt s at
   pub longer : at + 6 ≤ r .next
   pub left-steps : StepRange s (r .left) (r .middle)

@@ -24,10 +24,10 @@ unfoldable pub writeFile : List ℕ → List Group → List ℕ
 writeFile b gs = writeField 1 b ++ writeGroups gs
 
 -- The groups with their places, the first at a given one.
-unfoldable pub placed : ℕ → List Group → List GroupAt
-placed at [] = []
-placed at (g ∷ gs) =
-    record { head = at; group = g } ∷ placed (at + 6 + length (writeSteps (g .left)) + length (writeSteps (g .right))) gs
+unfoldable pub groupsPlaced : ℕ → List Group → List GroupAt
+groupsPlaced at [] = []
+groupsPlaced at (g ∷ gs) =
+    record { head = at; group = g } ∷ groupsPlaced (at + 6 + length (writeSteps (g .left)) + length (writeSteps (g .right))) gs
 
 -- What can be written in bytes.
 pub record InBytes (s : List ℕ) : Type 0 where

@@ -2,7 +2,7 @@
 ghost use mathlib.Core.Path.{_≡_};
 ghost use Prim.Native.Nat.{_+_, _≤_, _<_};
 ghost use lib.ListN.{length};
-ghost use Rattle.fields.specs.Fields.{word, fieldAt, groupEnd, groupsFrom, readFile, refused, layoutOf, stepOf, termBytes, GroupHere, SpanOf};
+ghost use Rattle.fields.specs.Fields.{word, fieldAt, groupEnd, groupsFrom, readFile, refused, layoutOf, readStep, termBytes, GroupHere, GroupParts};
 ghost use Rattle.fields.specs.Claims.{Reading, Writing};
 ghost use Rattle.fields.specs.Examples.{Examples};
 use code::numbers::ACCEPTED;
@@ -145,7 +145,7 @@ pub fn read_fields(s: &[u8]) -> Layout
 // The parts of the group whose tag 2 head is at a place.
 pub fn group_at(s: &[u8], at: usize) -> GroupSpan
     requires { ⌜ GroupHere (now s) at ⌝ }
-    ensures { λ r. ⌜ SpanOf (now (s .entry)) at r ⌝ }
+    ensures { λ r. ⌜ GroupParts (now (s .entry)) at r ⌝ }
 {
     let middle = at + 3 + word_at(s, at + 1);
     GroupSpan {
@@ -159,7 +159,7 @@ pub fn group_at(s: &[u8], at: usize) -> GroupSpan
 // The step in three bytes.
 pub fn step_at(s: &[u8], at: usize) -> StepBytes
     requires { ⌜ at + 3 ≤ length (now s) ⌝ }
-    ensures { λ r. ⌜ (record { kind = r .kind; place = r .place } ≡ stepOf (now (s .entry)) at) × (r .place < 65536) ⌝ }
+    ensures { λ r. ⌜ (record { kind = r .kind; place = r .place } ≡ readStep (now (s .entry)) at) × (r .place < 65536) ⌝ }
 {
     StepBytes {
         kind: s[at],

@@ -28,7 +28,7 @@ use Rattle.code.proofs.RoundTrip.{decode-encode, encode-decode, encode-bytes, b
 use Rattle.code.proofs.Scope.{closed-coded}
 use Rattle.fields.specs.Fields.{GroupAt, Fields, readFile, termBytes}
 use Rattle.fields.specs.Fields as fields
-use Rattle.fields.specs.Files.{writeFile, StepsFit, GroupsFit, placed}
+use Rattle.fields.specs.Files.{writeFile, StepsFit, GroupsFit, groupsPlaced}
 use Rattle.fields.specs.Files as files
 use Rattle.fields.proofs.Groups.{numbers as fields-numbers}
 use Rattle.fields.proofs.Written.{read-back, same-term, same-groups, in-bytes, only-written}
@@ -37,11 +37,11 @@ use Rattle.examine.specs.Inspect as term
 use Rattle.examine.proofs.Laws.{examining-holds}
 use Rattle.verdict.specs.Bounds.{bodyFits, stateFits, stateScope, stateSize, frameScope, waitingScope}
 use Rattle.verdict.specs.Verdict.{Progress, Run, passed, stopped, checkTerm, number, Ground}
-use Rattle.verdict.specs.Claims.{Fits, FormsFit, no-form, next-form, AllFit, progressOf}
+use Rattle.verdict.specs.Claims.{StateFits, FormsFit, no-form, next-form, AllFit, progressOf}
 use Rattle.verdict.proofs.Runs.{cond-both}
 use Rattle.verdict.proofs.Promises.{passing, stopping}
 use Rattle.files.specs.File.{Opened, refused, opened, openTerm, openFields, openFile}
-use Rattle.files.specs.Check.{CheckAnswer, groupsOf, leftOver, answerOf, checkOpened, checkFile}
+use Rattle.files.specs.Check.{CheckAnswer, groupsOf, leftOver, checkAnswerOf, checkOpened, checkFile}
 use Rattle.files.specs.Claims.{Accepted, Refused, before-the-walk, later, WithinLimits, Accepting, Refusing}
 
 -- WHAT OPENS
@@ -145,8 +145,8 @@ module _ (s : List ℕ) (t : Term) (e : ℕ) (gs : List GroupAt) (o : Opens s t 
         degree-is = refl;
       }
 
-  run-says : (x : Run) → checkTerm t (groupsOf gs) ≡ x → Says s (answerOf (degree ε t) gs x)
-  unfolding answerOf leftOver progressOf
+  run-says : (x : Run) → checkTerm t (groupsOf gs) ≡ x → Says s (checkAnswerOf (degree ε t) gs x)
+  unfolding checkAnswerOf leftOver progressOf
   run-says x h = go x h (rw h at (stopping .at-most-applicators t (groupsOf gs)), rw h at (stopping .at-most-groups t (groupsOf gs)))
     where
       left : (q : Progress) → checkTerm t (groupsOf gs) ≡ passed q → (q .comparisons ≤ applicators t) × (q .comparisons ≤ length (groupsOf gs)) → (hs : List GroupAt) → drop (q .comparisons) gs ≡ hs
@@ -154,7 +154,7 @@ module _ (s : List ℕ) (t : Term) (e : ℕ) (gs : List GroupAt) (o : Opens s t 
       left q h m [] e = (λ z. taken q h e, λ n. absurd (n refl))
       left q h m (g ∷ hs) e = (λ z. absurd (omega arith), λ n. later t (groupsOf gs) holds-just closed (omega arith) (omega arith) (m .0) (m .1) refl)
 
-      go : (x : Run) → checkTerm t (groupsOf gs) ≡ x → (progressOf x .comparisons ≤ applicators t) × (progressOf x .comparisons ≤ length (groupsOf gs)) → Says s (answerOf (degree ε t) gs x)
+      go : (x : Run) → checkTerm t (groupsOf gs) ≡ x → (progressOf x .comparisons ≤ applicators t) × (progressOf x .comparisons ≤ length (groupsOf gs)) → Says s (checkAnswerOf (degree ε t) gs x)
       go (passed q) h m = left q h m (drop (q .comparisons) gs) refl
       go (stopped g q) h m = let n = stopping .numbers t (groupsOf gs) g q closed h in (λ z. absurd (omega arith), λ k. later t (groupsOf gs) holds-just closed (n .0) (omega arith) (m .0) (m .1) refl)
 
@@ -167,7 +167,7 @@ says s b = go (openFile s) refl
     go (opened t e gs) h = run-says s t e gs (opens s t e gs h) b (checkTerm t (groupsOf gs)) refl
 
 -- EVERY CORRECT TERM, within the limits, has an accepted file
-start-scope : (t : Term) → Fits (own ε [] t) → scope t ≤ mostAbstractors
+start-scope : (t : Term) → StateFits (own ε [] t) → scope t ≤ mostAbstractors
 unfolding stateFits stateScope frameScope waitingScope depth
 start-scope t f =
     let b = cond-both (leb (stateSize (own ε [] t)) longestState) (leb (stateScope (own ε [] t)) mostAbstractors) f in
@@ -178,15 +178,15 @@ unfolding depth
 start-closed t d = plain-closed ε [] t (plain-of-one-pass ε [] t correct-empty d)
 
 -- the file that is written opens as the term and its groups
-written-opens : (t : Term) (d : OnePass (own ε [] t)) → Fits (own ε [] t) → size t ≤ longestTerm → length (writeFile (encode t) (groups d)) ≤ longestFile
-    → openFile (writeFile (encode t) (groups d)) ≡ opened t (3 + length (encode t)) (placed (3 + length (encode t)) (groups d))
+written-opens : (t : Term) (d : OnePass (own ε [] t)) → StateFits (own ε [] t) → size t ≤ longestTerm → length (writeFile (encode t) (groups d)) ≤ longestFile
+    → openFile (writeFile (encode t) (groups d)) ≡ opened t (3 + length (encode t)) (groupsPlaced (3 + length (encode t)) (groups d))
 unfolding openFile openFields openTerm
 written-opens t d f short long =
     let c = start-closed t d in
     let k = closed-coded c (omega (arith, start-scope t f)) in
     let s = writeFile (encode t) (groups d) in
     let e = 3 + length (encode t) in
-    let gs = placed e (groups d) in
+    let gs = groupsPlaced e (groups d) in
     let x = examining-holds .accepts (encode t) t (encode-bytes k) .1 (record { decodes = decode-encode k; short = short; closed = c; shallow = start-scope t f }) in
     ap (openFields s) (read-back (encode t) (groups d) long)
     ∙ ap (λ (b : List ℕ). openTerm e gs (examined b)) (same-term (encode t) (groups d))
@@ -198,16 +198,16 @@ all-answer n m d gs h q = ap (leftOver n d) (drop-of-length-le gs h) ∙ ap (λ 
 
 accepted-file : (t : Term) (d : OnePass (own ε [] t)) → WithinLimits t d
     → checkFile (writeFile (encode t) (groups d)) ≡ record { number = 0; place = 0; comparisons = applicators t; degree = degree ε t }
-unfolding checkFile checkOpened answerOf
+unfolding checkFile checkOpened checkAnswerOf
 accepted-file t d w =
     let e = 3 + length (encode t) in
-    let gs = placed e (groups d) in
+    let gs = groupsPlaced e (groups d) in
     let r = passing .complete t d (w .states-and-forms) [] in
     let same : groupsOf gs ≡ groups d = same-groups e (groups d) in
     let h : checkTerm t (groupsOf gs) ≡ passed (r .0) = ap (checkTerm t) (same ∙ sym (append-nil (groups d))) ∙ r .1 in
     let many = length-map gs (λ (g : GroupAt). g .group) in
     ap checkOpened (written-opens t d (w .states-and-forms .first) (w .term) (w .file))
-    ∙ ap (answerOf (degree ε t) gs) h
+    ∙ ap (checkAnswerOf (degree ε t) gs) h
     ∙ all-answer (r .0 .comparisons) (applicators t) (degree ε t) gs (omega (arith, r .3, many, ap length same)) (r .3 ∙ length-groups ε [] t d ∙ zero-add (applicators t))
 
 -- a step that is not refused has one of the known kinds, and its place is in the body

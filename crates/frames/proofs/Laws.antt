@@ -16,7 +16,7 @@ use Rattle.code.proofs.FirstZero.{standing}
 use Rattle.code.proofs.Parts.{stands-start, stands-end}
 use Rattle.calculus.proofs.Ren.{no-some}
 use Rattle.calculus.proofs.Weaken.{entryAt-zero}
-use Rattle.frames.specs.Stored.{frameSize, EntryBytes, bytes-single, bytes-pair, Entries, no-entry, one-entry, Stored, Holding, Agree, pushed, SpanOf, span-single, span-pair, Standing, EndAt, EntryAt, Parted, Looked}
+use Rattle.frames.specs.Stored.{frameSize, EntryBytes, bytes-single, bytes-pair, Entries, no-entry, one-entry, Stored, Holding, Agree, pushed, EntryParts, span-single, span-pair, SomeTermFrom, EndAt, EntryAt, Parted, Looked}
 use Rattle.frames.specs.Claims.{FrameLaws}
 use Rattle.frames.specs.declared.FrameRecord.{FrameRecord}
 use Rattle.frames.specs.declared.Span.{Span}
@@ -105,7 +105,7 @@ here {starts = starts} {n = n} (suc (suc k)) (one-entry {j = j} q d s b) a c g =
     record { entry = h .entry; means = h .means; bytes = at-place (h .bytes) (ap (λ k. getD starts k 0) i) refl; before = omega (arith, h .before) }
 
 -- ---- The U of an entry.
-pub span-domain : {w : List ℕ} {s : Span} {x : Entry} → SpanOf w s x → Stands w (s .domain) (s .end) (domain x)
+pub span-domain : {w : List ℕ} {s : Span} {x : Entry} → EntryParts w s x → Stands w (s .domain) (s .end) (domain x)
 unfolding domain
 span-domain (span-single a u) = u
 span-domain (span-pair a b k u) = u
@@ -114,7 +114,7 @@ span-domain (span-pair a b k u) = u
 pub end-at : {w : List ℕ} {p e : ℕ} → some e ≡ termEnd w p → EndAt w p e
 end-at {e = e} q = record { ends = λ e′ t h. Option·some-injective e e′ (q ∙ standing h) }
 
-pub ends-somewhere : {w : List ℕ} {p : ℕ} → Standing w p → none ≡ termEnd w p → ⊥
+pub ends-somewhere : {w : List ℕ} {p : ℕ} → SomeTermFrom w p → none ≡ termEnd w p → ⊥
 ends-somewhere h q = no-some (q ∙ standing (h .stands))
 
 module _ {w : List ℕ} {p e : ℕ} where
@@ -124,15 +124,15 @@ module _ {w : List ℕ} {p e : ℕ} where
   pub single-parts : getD w p 0 ≡ 0xff → Parted w p e (record { applied = 0; domain = p + 1; end = e })
   single-parts q = record { ends = refl; parts = go }
     where
-      go : (x : Entry) → EntryBytes w p x e → SpanOf w (record { applied = 0; domain = p + 1; end = e }) x
+      go : (x : Entry) → EntryBytes w p x e → EntryParts w (record { applied = 0; domain = p + 1; end = e }) x
       go x (bytes-single {U = U} b u) = span-single {U = U} refl (rw add-one u)
       go x (bytes-pair b k c u) = absurd (omega arith)
 
   module _ (n : getD w p 0 ≡ 0xff → ⊥) where
-    pub applied-stands : EntryAt w p e → Standing w (p + 1)
+    pub applied-stands : EntryAt w p e → SomeTermFrom w (p + 1)
     applied-stands h = go (h .entry) (h .bytes)
       where
-        go : (x : Entry) → EntryBytes w p x e → Standing w (p + 1)
+        go : (x : Entry) → EntryBytes w p x e → SomeTermFrom w (p + 1)
         go x (bytes-single b u) = absurd (n b)
         go x (bytes-pair {m = m} {K = K} b k c u) = record { work = h .work; end = m; term = K; stands = rw add-one k }
 
@@ -146,7 +146,7 @@ module _ {w : List ℕ} {p e : ℕ} where
     pub pair-parts : {m : ℕ} → EndAt w (p + 1) m → Parted w p e (record { applied = p + 1; domain = m + 1; end = e })
     pair-parts {m} a = record { ends = refl; parts = go }
       where
-        go : (x : Entry) → EntryBytes w p x e → SpanOf w (record { applied = p + 1; domain = m + 1; end = e }) x
+        go : (x : Entry) → EntryBytes w p x e → EntryParts w (record { applied = p + 1; domain = m + 1; end = e }) x
         go x (bytes-single b u) = absurd (n b)
         go x (bytes-pair {m = i} {K = K} {U = U} b k c u) =
             let q : m ≡ i = a .ends i K (rw add-one k) in

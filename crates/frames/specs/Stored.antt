@@ -60,12 +60,12 @@ abbrev pub pushed : FrameRecord → ℕ → FrameRecord
 pushed r e = record { starts = set (r .starts) (r .len) (r .end); len = r .len + 1; end = e }
 
 -- Where the parts of an entry stand: U from `domain` up to `end`; K from `applied` up to one before `domain`, where `applied` is not 0.
-pub data SpanOf (w : List ℕ) (s : Span) : Entry → Type 0 where
-  span-single : {U : Term} → s .applied ≡ 0 → Stands w (s .domain) (s .end) U → SpanOf w s (single U)
-  span-pair : {m : ℕ} {K U : Term} → 1 ≤ s .applied → s .domain ≡ suc m → Stands w (s .applied) m K → Stands w (s .domain) (s .end) U → SpanOf w s (pair K U)
+pub data EntryParts (w : List ℕ) (s : Span) : Entry → Type 0 where
+  span-single : {U : Term} → s .applied ≡ 0 → Stands w (s .domain) (s .end) U → EntryParts w s (single U)
+  span-pair : {m : ℕ} {K U : Term} → 1 ≤ s .applied → s .domain ≡ suc m → Stands w (s .applied) m K → Stands w (s .domain) (s .end) U → EntryParts w s (pair K U)
 
 -- Some term stands in the work array from p.
-pub record Standing (w : List ℕ) (p : ℕ) : Type 0 where
+pub record SomeTermFrom (w : List ℕ) (p : ℕ) : Type 0 where
   pub work : length w ≡ longestState
   pub end : ℕ
   pub term : Term
@@ -84,9 +84,9 @@ pub record EntryAt (w : List ℕ) (p e : ℕ) : Type 0 where
 -- The parts of the entry that stands from p up to e.
 pub record Parted (w : List ℕ) (p e : ℕ) (s : Span) : Type 0 where
   pub ends : s .end ≡ e
-  pub parts : (x : Entry) → EntryBytes w p x e → SpanOf w s x
+  pub parts : (x : Entry) → EntryBytes w p x e → EntryParts w s x
 
 -- What index k means in the frame.
 pub record Looked (w : List ℕ) (r : FrameRecord) (k : ℕ) (s : Span) : Type 0 where
-  pub found : (R : Frame) → Stored w r R → (x : Entry) × (entryAt R k ≡ some x) × SpanOf w s x
+  pub found : (R : Frame) → Stored w r R → (x : Entry) × (entryAt R k ≡ some x) × EntryParts w s x
   pub end-inside : s .end ≤ r .end

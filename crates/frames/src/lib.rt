@@ -4,14 +4,23 @@ ghost use mathlib.Core.Path.{_≡_};
 ghost use Prim.Native.Nat.{_≤_, _<_};
 ghost use Rattle.code.specs.Limits.{longestState, mostAbstractors};
 ghost use Rattle.code.specs.Code.{Tabled};
-ghost use Rattle.frames.specs.Stored.{Holding, EmptyRecord, Standing, EndAt, EntryAt, Parted, Looked, pushed, recordOf};
+ghost use Rattle.frames.specs.Stored.{Holding, EmptyRecord, SomeTermFrom, EndAt, EntryAt, Parted, Looked, pushed, recordOf};
 ghost use Rattle.frames.specs.Claims.{FrameLaws};
-use code::End;
+use code::Deltas;
+use code::TermEnd;
+use code::numbers::LONGEST_STATE;
+use code::numbers::MOST_ABSTRACTORS;
 use code::table;
 use code::term_end_by;
 
+// The work array (document 01: 'one [0; LONGEST_STATE] byte array').
+pub type Work = [u8; LONGEST_STATE];
+
+// The place of each entry.
+pub type Starts = [u16; MOST_ABSTRACTORS];
+
 pub struct FrameRecord {
-    pub starts: [u16; 253],
+    pub starts: Starts,
     pub len: usize,
     pub end: usize,
 }
@@ -28,7 +37,7 @@ pub fn empty_frame() -> FrameRecord
     ensures { λ r. ⌜ EmptyRecord r ⌝ }
 {
     FrameRecord {
-        starts: [0; 253],
+        starts: [0; MOST_ABSTRACTORS],
         len: 0,
         end: 0,
     }
@@ -55,20 +64,20 @@ fn wide(x: u16) -> usize
 }
 
 // Where the term that starts at p ends.
-pub fn end_of(t: &[i32; 256], work: &[u8; 8192], p: usize) -> usize
-    requires { ⌜ Tabled (now t) × Standing (now work) p ⌝ }
+pub fn end_of(deltas: &Deltas, work: &Work, p: usize) -> usize
+    requires { ⌜ Tabled (now deltas) × SomeTermFrom (now work) p ⌝ }
     ensures { λ r. ⌜ EndAt (now (work .entry)) p r ⌝ }
 {
     let all = &work[..];
-    let End::At(e) = term_end_by(t, all, p) else {
+    let TermEnd::At(e) = term_end_by(deltas, all, p) else {
         return p;
     };
     e
 }
 
 // The parts of the entry whose bytes stand from p up to e.
-fn parts_of(t: &[i32; 256], work: &[u8; 8192], p: usize, e: usize) -> Span
-    requires { ⌜ Tabled (now t) × EntryAt (now work) p e ⌝ }
+fn parts_of(deltas: &Deltas, work: &Work, p: usize, e: usize) -> Span
+    requires { ⌜ Tabled (now deltas) × EntryAt (now work) p e ⌝ }
     ensures { λ r. ⌜ Parted (now (work .entry)) p e r ⌝ }
 {
     if work[p] == 0xff {
@@ -78,7 +87,7 @@ fn parts_of(t: &[i32; 256], work: &[u8; 8192], p: usize, e: usize) -> Span
             end: e,
         };
     }
-    let m = end_of(t, work, p + 1);
+    let m = end_of(deltas, work, p + 1);
     Span {
         applied: p + 1,
         domain: m + 1,
@@ -89,14 +98,14 @@ fn parts_of(t: &[i32; 256], work: &[u8; 8192], p: usize, e: usize) -> Span
 // The parts of the entry that index k means, with a table of what each byte does to the balance. The record comes in its
 // parts, so that looking an entry up does not copy it.
 pub fn entry_at_by(
-    t: &[i32; 256],
-    work: &[u8; 8192],
-    starts: &[u16; 253],
+    deltas: &Deltas,
+    work: &Work,
+    starts: &Starts,
     len: usize,
     end: usize,
     k: usize,
 ) -> Span
-    requires { ⌜ Tabled (now t) × Holding (now work) (recordOf (now starts) len end) × (1 ≤ k) × (k ≤ len) ⌝ }
+    requires { ⌜ Tabled (now deltas) × Holding (now work) (recordOf (now starts) len end) × (1 ≤ k) × (k ≤ len) ⌝ }
     ensures { λ r. ⌜ Looked (now (work .entry)) (recordOf (now (starts .entry)) len end) k r ⌝ }
 {
     let i = len - k;
@@ -105,16 +114,16 @@ pub fn entry_at_by(
     if k > 1 {
         e = wide(starts[i + 1]);
     }
-    parts_of(t, work, p, e)
+    parts_of(deltas, work, p, e)
 }
 
 // The same, with a table of its own.
-pub fn entry_at(work: &[u8; 8192], f: FrameRecord, k: usize) -> Span
+pub fn entry_at(work: &Work, f: FrameRecord, k: usize) -> Span
     requires { ⌜ Holding (now work) f × (1 ≤ k) × (k ≤ f .len) ⌝ }
     ensures { λ r. ⌜ Looked (now (work .entry)) f k r ⌝ }
 {
-    let t = table();
-    entry_at_by(&t, work, &f.starts, f.len, f.end, k)
+    let deltas = table();
+    entry_at_by(&deltas, work, &f.starts, f.len, f.end, k)
 }
 
 pub fn frame_laws()

@@ -18,8 +18,8 @@ use Rattle.code.specs.Scope.{scope}
 use Rattle.code.proofs.RoundTrip.{encode-bytes}
 use Rattle.code.proofs.Parts.{stands-unique}
 use Rattle.indices.specs.Shift.{shift, shiftByte, uses}
-use Rattle.indices.specs.Stack.{Roomy, Ready, Advanced}
-use Rattle.indices.specs.Passes.{Standing, Measured, Shiftable}
+use Rattle.indices.specs.Stack.{Roomy, StackReady, Advanced}
+use Rattle.indices.specs.Passes.{ShortTerm, Measured, Shiftable}
 use Rattle.indices.proofs.Pending.{Item, item, next, deepest, isNone, used, shiftedText, deepest-next, used-next, shifted-next}
 use Rattle.indices.proofs.Walk.{Walk, scope-size, walk-start, walk-end, unfinished, walk-next, here-byte, here-scope, ready}
 
@@ -63,7 +63,7 @@ module _ {s : List ℕ} {from e : ℕ} {stack : List ℕ} {sp i m : ℕ} {u : Bo
             use-seen = rw (r, k, here-byte d f W w) (or-assoc u (uses d _) (used (next d f W)) ∙ rw (used-next d f W) at z);
           }
 
-  pub measuring-ready : Standing s from e → ((t : Term) → Stands s from e t → Measuring s from e stack sp i m u t) → i < e → Ready stack sp
+  pub measuring-ready : ShortTerm s from e → ((t : Term) → Stands s from e t → Measuring s from e stack sp i m u t) → i < e → StackReady stack sp
   measuring-ready g v h = let w = v (g .term) (g .stands) in ready (w .work) (w .walk) h
 
   pub measured : e ≤ i → ((t : Term) → Stands s from e t → Measuring s from e stack sp i m u t) → Measured s from e m u
@@ -101,7 +101,7 @@ module _ {up down c : ℕ} where
       }
 
   module _ {s₀ s : List ℕ} {from e : ℕ} {stack : List ℕ} {sp i : ℕ} {t : Term} (v : Shifting up down c s₀ s from e stack sp i t) where
-    pub shifting-ready : i < e → Ready stack sp
+    pub shifting-ready : i < e → StackReady stack sp
     shifting-ready h = ready (v .work) (v .walk) h
 
     pub shifted-byte : {x : ℕ} → i < e → x ≡ getD stack (sp - 1) 0 → shiftByte up down x (getD s i 0) < 256

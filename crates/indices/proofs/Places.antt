@@ -13,7 +13,7 @@ use Rattle.code.specs.Code.{encode, Coded}
 use Rattle.code.specs.Claims.{Stands}
 use Rattle.code.proofs.RoundTrip.{length-encode}
 use Rattle.code.proofs.Parts.{stands-end, stands-rest}
-use Rattle.indices.specs.Passes.{Standing}
+use Rattle.indices.specs.Passes.{ShortTerm}
 
 -- ---- Stores and parts of a list.
 pub drop-sets-after : (vs s : List ℕ) (i p : ℕ) → i + length vs ≤ p → drop p (sets s i vs) ≡ drop p s
@@ -66,5 +66,5 @@ module _ {s : List ℕ} {from e : ℕ} {t : Term} (h : Stands s from e t) where
           rw (add-zero from) at (drop-sets-before (encode u) s from 0) ∙ rw (h .bytes)
           (sets-eq (encode u) (encode t ++ h .rest) 0 (rw length-append (omega (arith, l))) ∙ ap (encode u ++_) (rw (zero-add (length (encode u)), l) (drop-at (encode t) (h .rest) (length (encode t)) refl)))
 
-pub standing : {s : List ℕ} {from e : ℕ} {t : Term} → Stands s from e t → size t ≤ longestTerm → Standing s from e
+pub standing : {s : List ℕ} {from e : ℕ} {t : Term} → Stands s from e t → size t ≤ longestTerm → ShortTerm s from e
 standing {t = t} h l = record { term = t; stands = h; short = omega (arith, h .place) }

@@ -13,7 +13,7 @@ use Rattle.code.specs.Claims.{Stands}
 use Rattle.indices.specs.Shift.{shift}
 use Rattle.code.specs.Limits.{longestTerm}
 use Rattle.code.specs.Scope.{scope}
-use Rattle.indices.specs.Passes.{Standing, Replaced, Liftable, LiftableAbove, Lowerable, Lowered, Shiftable}
+use Rattle.indices.specs.Passes.{ShortTerm, Replaced, Liftable, LiftableAbove, Lowerable, Lowered, Shiftable}
 use Rattle.indices.proofs.Walk.{scope-size}
 use Rattle.indices.proofs.Lowering.{shift-up, lower-shift, lower-coded}
 use Rattle.indices.proofs.Places.{sets-own, stands-set, take-sets}
@@ -23,7 +23,7 @@ pub lift-shiftable : {s : List ℕ} {from e n c : ℕ} → LiftableAbove s from 
 lift-shiftable {n = n} {c = c} g = record { standing = g .standing; coded = rw (shift-up n c (g .standing .term)) (g .coded); least = omega arith; shallow = g .shallow }
 
 -- a short term's scope is below its size
-standing-shallow : {s : List ℕ} {from e : ℕ} (g : Standing s from e) → 0 + scope (g .term) < longestTerm
+standing-shallow : {s : List ℕ} {from e : ℕ} (g : ShortTerm s from e) → 0 + scope (g .term) < longestTerm
 standing-shallow g = omega (arith, scope-size (g .term), g .stands .place, g .short)
 
 pub liftable-above : {s : List ℕ} {from e n : ℕ} → Liftable s from e n → LiftableAbove s from e n 0

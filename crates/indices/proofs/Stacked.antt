@@ -8,7 +8,7 @@ use native.Mathlib.Numerals.{add-one}
 use lib.ListN.{length, getD, set, length-set}
 use lib.Seq.{getD-set-same, getD-set-other}
 use borrow.Author.Tests.{lt-ltb, le-ltb}
-use Rattle.indices.specs.Stack.{stackOf, bodyScope, after, Ready, Advanced}
+use Rattle.indices.specs.Stack.{stackOf, bodyScope, after, StackReady, Advanced}
 
 pub length-stack : (a : List ℕ) (n : ℕ) → length (stackOf a n) ≡ n
 unfolding stackOf
@@ -38,12 +38,12 @@ top a zero e = let z : _≡_ {A = ℕ} 0 1 = cc in absurd (omega arith)
 top a (suc n) e = rw (less-one n) (cc)
 
 module _ {a : List ℕ} {b : ℕ} where
-  pub advanced-terminal : (n : ℕ) → Ready a n → b < 254 → Advanced a a n (n - 1) b
+  pub advanced-terminal : (n : ℕ) → StackReady a n → b < 254 → Advanced a a n (n - 1) b
   unfolding stackOf after
   advanced-terminal zero r h = absurd (omega (arith, r .positive))
   advanced-terminal (suc n) r h = record { scopes = rw (lt-ltb b 254 h, less-one n); same-length = refl; small = omega arith }
 
-  pub advanced-operator : (n x : ℕ) → Ready a n → 254 ≤ b → x ≡ bodyScope b (getD a (n - 1) 0) → Advanced a (set (set a (n - 1) x) n (getD a (n - 1) 0)) n (n + 1) b
+  pub advanced-operator : (n x : ℕ) → StackReady a n → 254 ≤ b → x ≡ bodyScope b (getD a (n - 1) 0) → Advanced a (set (set a (n - 1) x) n (getD a (n - 1) 0)) n (n + 1) b
   unfolding stackOf after
   advanced-operator zero x r h e = absurd (omega (arith, r .positive))
   advanced-operator (suc n) x r h e =

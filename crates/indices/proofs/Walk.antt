@@ -13,7 +13,7 @@ use Rattle.code.specs.Claims.{Stands}
 use Rattle.code.specs.Scope.{scope}
 use Rattle.code.proofs.RoundTrip.{length-encode}
 use Rattle.code.proofs.Parts.{first-byte, drop-more, stands-rest}
-use Rattle.indices.specs.Stack.{stackOf, Roomy, Ready, Advanced}
+use Rattle.indices.specs.Stack.{stackOf, Roomy, StackReady, Advanced}
 use Rattle.indices.proofs.Stacked.{length-stack, top}
 use Rattle.indices.proofs.Pending.{Item, item, next, byte, text, scopes, deepest, text-next, scopes-next, deepest-next, count-text}
 
@@ -56,7 +56,7 @@ module _ {s : List ℕ} {from e : ℕ} {stack : List ℕ} {sp i : ℕ} where
   unfolding text
   unfinished w h = omega (arith, w .place)
 
-  pub ready : (W : List Item) → Walk s from e stack sp i W → i < e → Ready stack sp
+  pub ready : (W : List Item) → Walk s from e stack sp i W → i < e → StackReady stack sp
   unfolding text scopes
   ready [] w h = absurd (unfinished w h)
   ready (item d f ∷ W) w h =

@@ -16,7 +16,7 @@ use Rattle.code.specs.Scope.{scope}
 use Rattle.indices.specs.Shift.{shift}
 
 -- A term of at most 4,096 bytes stands in s from a place up to e.
-pub record Standing (s : List ℕ) (from e : ℕ) : Type 0 where
+pub record ShortTerm (s : List ℕ) (from e : ℕ) : Type 0 where
   pub term : Term
   pub stands : Stands s from e term
   pub short : e ≤ from + longestTerm
@@ -34,18 +34,18 @@ pub record Replaced (f : Term → Term) (s s′ : List ℕ) (from e : ℕ) : Typ
 
 -- Lifting by n with the cut-off c leaves variables' bytes.
 pub record LiftableAbove (s : List ℕ) (from e n c : ℕ) : Type 0 where
-  pub standing : Standing s from e
+  pub standing : ShortTerm s from e
   pub coded : Coded (lift n c (standing .term))
   pub shallow : c + scope (standing .term) < longestTerm
 
 -- The same with no cut-off.
 pub record Liftable (s : List ℕ) (from e n : ℕ) : Type 0 where
-  pub standing : Standing s from e
+  pub standing : ShortTerm s from e
   pub coded : Coded (lift n 0 (standing .term))
 
 -- Index 1 of the surroundings is not used.
 pub record Lowerable (s : List ℕ) (from e : ℕ) : Type 0 where
-  pub standing : Standing s from e
+  pub standing : ShortTerm s from e
   pub lowered : Term
   pub unused : lower 0 (standing .term) ≡ some lowered
 
@@ -55,7 +55,7 @@ pub record Lowered (s s′ : List ℕ) (from e : ℕ) : Type 0 where
 
 -- Either way.
 pub record Shiftable (s : List ℕ) (from e up down c : ℕ) : Type 0 where
-  pub standing : Standing s from e
+  pub standing : ShortTerm s from e
   pub coded : Coded (shift up down c (standing .term))
   pub least : down ≤ 1
   pub shallow : c + scope (standing .term) < longestTerm

@@ -29,7 +29,7 @@ pub record Roomy (stack : List ℕ) (from e c : ℕ) : Type 0 where
   pub first : getD stack 0 0 ≡ c
 
 -- A part is still to be read, and there is room for two.
-pub record Ready (stack : List ℕ) (sp : ℕ) : Type 0 where
+pub record StackReady (stack : List ℕ) (sp : ℕ) : Type 0 where
   pub positive : 1 ≤ sp
   pub fits : sp < length stack
   pub shallow : getD stack (sp - 1) 0 < longestTerm

@@ -5,8 +5,8 @@ ghost use mathlib.Core.Bool.{_||_};
 ghost use Prim.Native.Nat.{_≤_, _<_, max};
 ghost use Rattle.calculus.specs.Terms.{lift};
 ghost use Rattle.indices.specs.Shift.{shift, shiftByte, uses};
-ghost use Rattle.indices.specs.Stack.{bodyScope, Roomy, Ready, Advanced};
-ghost use Rattle.indices.specs.Passes.{Standing, Measured, Replaced, Liftable, LiftableAbove, Lowerable, Lowered, Shiftable};
+ghost use Rattle.indices.specs.Stack.{bodyScope, Roomy, StackReady, Advanced};
+ghost use Rattle.indices.specs.Passes.{ShortTerm, Measured, Replaced, Liftable, LiftableAbove, Lowerable, Lowered, Shiftable};
 
 // The most abstractors of a term that any of its symbols has in scope, and whether index 1 of its surroundings is used.
 pub struct Measurement {
@@ -44,7 +44,7 @@ fn body_scope(b: u8, d: u16) -> u16
 
 // The stack after the byte b, whose scope is the latest on it.
 fn advance(stack: &mut [u16], sp: usize, b: u8) -> usize
-    requires { ⌜ Ready (now stack) sp ⌝ }
+    requires { ⌜ StackReady (now stack) sp ⌝ }
     ensures { λ r. ⌜ Advanced (now (stack .entry)) (now (stack .exit)) sp r b ⌝ }
 {
     if b < 0xfe {
@@ -71,7 +71,7 @@ fn used_by(used: bool, b: u8, d: usize) -> bool
 }
 
 fn measure_with(s: &[u8], from: usize, to: usize, stack: &mut [u16]) -> Measurement
-    requires { ⌜ Standing (now s) from to × Roomy (now stack) from to 0 ⌝ }
+    requires { ⌜ ShortTerm (now s) from to × Roomy (now stack) from to 0 ⌝ }
     ensures { λ r. ⌜ Measured (now (s .entry)) from to (r .scope) (r .used) ⌝ }
 {
     let mut sp: usize = 1;
@@ -94,7 +94,7 @@ fn measure_with(s: &[u8], from: usize, to: usize, stack: &mut [u16]) -> Measurem
 
 // A short term needs a small stack only: filling a large one would cost more than the pass.
 pub fn measure(s: &[u8], from: usize, to: usize) -> Measurement
-    requires { ⌜ Standing (now s) from to ⌝ }
+    requires { ⌜ ShortTerm (now s) from to ⌝ }
     ensures { λ r. ⌜ Measured (now (s .entry)) from to (r .scope) (r .used) ⌝ }
 {
     if to - from < 127 {

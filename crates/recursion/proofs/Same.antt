@@ -20,9 +20,9 @@ use Rattle.calculus.proofs.Agree.{length-liftAll}
 use Rattle.code.specs.Limits.{longestState, mostAbstractors}
 use Rattle.verdict.specs.Bounds.{stateFits, bodyFits, stateSize, stateScope}
 use Rattle.verdict.specs.Verdict.{Item, state-at, same-at, placed, groundOf, left-side, right-side, bodies-differ, Progress, turned, completed, Run, passed, stopped, andThen, OtherSide, right-next, left-reached, sideOf, on-step, done, identical, formsMeet, sideFrom, withGroup, withType, toTurn, stepped, turn, finish, checkTerm}
-use Rattle.verdict.specs.Claims.{Fits, follow}
+use Rattle.verdict.specs.Claims.{StateFits, follow}
 use Rattle.recursion.specs.Claims.{Recurring}
-use Rattle.recursion.specs.Recursion.{Waiting, terms, places, liftWaiting, Replayed, outgrown-at, afterStep, replayFrom, oneSide, completedWith, compareWith, nextGroup, typedBy, compareNext, tested, atTau, atVar, copiedRule, enough, copiedFrom, ownFrom, recursive}
+use Rattle.recursion.specs.Recursion.{Waiting, termsOf, places, liftWaiting, Replayed, outgrown-at, afterStep, replayFrom, oneSide, completedWith, compareWith, nextGroup, typedBy, compareNext, tested, atTau, atVar, copiedRule, enough, copiedFrom, ownFrom, recursive}
 use Rattle.verdict.proofs.Runs.{cond-both}
 use Rattle.verdict.proofs.Turns.{Leads, here, turn-to, leads-from, run-leads, turn-over}
 use Rattle.verdict.proofs.BigStep.{big-leads, finish-big}
@@ -124,11 +124,11 @@ compare-same R w U p = typing (type R (w .term)) refl
 pub record Adequate (R : Frame) (B : Term) (n : ℕ) : Type 0 where
   pub turns : degree R B * suc longestState + min (size B) (suc longestState) ≤ n
 
-fits-size : (s : State) → Fits s → stateSize s ≤ longestState
+fits-size : (s : State) → StateFits s → stateSize s ≤ longestState
 unfolding stateFits
 fits-size s h = leb-true (stateSize s) longestState (cond-both (leb (stateSize s) longestState) (leb (stateScope s) mostAbstractors) h .0)
 
-pub fits-body : (R : Frame) (L Y : List Term) (B : Term) → Fits (copied R L Y B) → size B ≤ longestState
+pub fits-body : (R : Frame) (L Y : List Term) (B : Term) → StateFits (copied R L Y B) → size B ≤ longestState
 unfolding stateSize
 fits-body R L Y B h = omega (arith, fits-size (copied R L Y B) h)
 
@@ -163,8 +163,8 @@ unfolding enough size
 adequate-start R k = record { turns = omega arith }
 
 -- THE STATES
-pub terms-lift : (W : List Waiting) → terms (liftWaiting W) ≡ liftAll (terms W)
-unfolding terms liftWaiting liftAll
+pub terms-lift : (W : List Waiting) → termsOf (liftWaiting W) ≡ liftAll (termsOf W)
+unfolding termsOf liftWaiting liftAll
 terms-lift [] = refl
 terms-lift (w ∷ W) = ap (λ (l : List Term). lift 1 0 (w .term) ∷ l) (terms-lift W)
 
@@ -173,8 +173,8 @@ unfolding places liftWaiting
 places-lift [] = refl
 places-lift (w ∷ W) = ap (λ (l : List ℕ). w .place ∷ l) (places-lift W)
 
-places-length : (W : List Waiting) → length (places W) ≡ length (terms W)
-unfolding places terms
+places-length : (W : List Waiting) → length (places W) ≡ length (termsOf W)
+unfolding places termsOf
 places-length [] = refl
 places-length (w ∷ W) = ap suc (places-length W)
 
@@ -184,11 +184,11 @@ waiting-length [] = refl
 waiting-length (w ∷ W) = ap suc (waiting-length W)
 
 -- what waits, lifted past an abstractor
-lifted : (i : ℕ) (W : List Waiting) (f : List Term → State) → state-at i (places (liftWaiting W)) (f (terms (liftWaiting W))) ∷ [] ≡ state-at i (places W) (f (liftAll (terms W))) ∷ []
+lifted : (i : ℕ) (W : List Waiting) (f : List Term → State) → state-at i (places (liftWaiting W)) (f (termsOf (liftWaiting W))) ∷ [] ≡ state-at i (places W) (f (liftAll (termsOf W))) ∷ []
 lifted i W f = rw (places-lift W, terms-lift W)
 
 -- a tested state, by the law of its rule
-tested-same : (i : ℕ) (ws : List ℕ) (s : State) (rule : Progress → Run) (p : Progress) → (Fits s → rule (turned 1 p) ≡ follow i ws (onePassNext s) (turned 1 p))
+tested-same : (i : ℕ) (ws : List ℕ) (s : State) (rule : Progress → Run) (p : Progress) → (StateFits s → rule (turned 1 p) ≡ follow i ws (onePassNext s) (turned 1 p))
     → tested (stateFits s) i rule p ≡ finish (state-at i ws s ∷ []) p
 unfolding tested
 tested-same i ws s rule p h = go (stateFits s) refl
@@ -204,35 +204,35 @@ then-same R w U a f p h =
     ap₂ andThen (sym (compare-same R w U p)) (fun-ext h) ∙ sym (running .in-parts (same-at (w .place) R (w .term) U ∷ []) (a ∷ []) p)
 
 same-var : (i : ℕ) (R : Frame) (W : List Waiting) (Y : List Term) (k : ℕ) (o : Option Entry) (f : Entry → Progress → Run) (p : Progress)
-    → ((e : Entry) → o ≡ some e → f e p ≡ finish (state-at i (places W) (copied R (terms W) Y (lift k 0 (domain e))) ∷ []) p)
-    → atVar i o f p ≡ follow i (places W) (typed o (λ e. copied R (terms W) Y (lift k 0 (domain e)))) p
+    → ((e : Entry) → o ≡ some e → f e p ≡ finish (state-at i (places W) (copied R (termsOf W) Y (lift k 0 (domain e))) ∷ []) p)
+    → atVar i o f p ≡ follow i (places W) (typed o (λ e. copied R (termsOf W) Y (lift k 0 (domain e)))) p
 unfolding atVar follow typed placed groundOf
 same-var i R W Y k none f p h = refl
-same-var i R W Y k (some e) f p h = rw (last-all (length (terms W)) (places W) (sym (places-length W))) (h e refl)
+same-var i R W Y k (some e) f p h = rw (last-all (length (termsOf W)) (places W) (sym (places-length W))) (h e refl)
 
 copied-same : (n place : ℕ) (R : Frame) (W : List Waiting) (Y : List Term) (B : Term) (p : Progress) → Adequate R B n
-    → copiedFrom n place R W Y B p ≡ finish (state-at place (places W) (copied R (terms W) Y B) ∷ []) p
-unfolding copiedFrom copiedRule onePassNext follow placed groundOf atTau terms places domain
+    → copiedFrom n place R W Y B p ≡ finish (state-at place (places W) (copied R (termsOf W) Y B) ∷ []) p
+unfolding copiedFrom copiedRule onePassNext follow placed groundOf atTau termsOf places domain
 copied-same zero place R W Y B p a = adequate-zero a
 copied-same (suc n) place R [] [] tau p a = tested-same place [] (copied R [] [] tau) _ p (λ t. sym (running .nothing (turned 1 p)))
-copied-same (suc n) place R (w ∷ W) [] tau p a = tested-same place (places (w ∷ W)) (copied R (terms (w ∷ W)) [] tau) _ p (λ t. rw (waiting-length W))
-copied-same (suc n) place R W (K ∷ Y) tau p a = tested-same place (places W) (copied R (terms W) (K ∷ Y) tau) _ p (λ t. refl)
-copied-same (suc n) place R W Y (var k) p a = tested-same place (places W) (copied R (terms W) Y (var k)) _ p (λ t.
+copied-same (suc n) place R (w ∷ W) [] tau p a = tested-same place (places (w ∷ W)) (copied R (termsOf (w ∷ W)) [] tau) _ p (λ t. rw (waiting-length W))
+copied-same (suc n) place R W (K ∷ Y) tau p a = tested-same place (places W) (copied R (termsOf W) (K ∷ Y) tau) _ p (λ t. refl)
+copied-same (suc n) place R W Y (var k) p a = tested-same place (places W) (copied R (termsOf W) Y (var k)) _ p (λ t.
     same-var place R W Y k (entryAt R k) _ (turned 1 p) (λ e h. copied-same n place R W Y (lift k 0 (domain e)) (turned 1 p) (adequate-var h a)))
-copied-same (suc n) place R W Y (app K B) p a = tested-same place (places W) (copied R (terms W) Y (app K B)) _ p (λ t.
-    rw (last-all (length (terms W)) (places W) (sym (places-length W)))
-    (copied-same n place R W (K ∷ Y) B (turned 1 p) (adequate-app (fits-body R (terms W) Y (app K B) t) a)))
+copied-same (suc n) place R W Y (app K B) p a = tested-same place (places W) (copied R (termsOf W) Y (app K B)) _ p (λ t.
+    rw (last-all (length (termsOf W)) (places W) (sym (places-length W)))
+    (copied-same n place R W (K ∷ Y) B (turned 1 p) (adequate-app (fits-body R (termsOf W) Y (app K B) t) a)))
 copied-same (suc n) place R [] [] (abs U B) p a = tested-same place [] (copied R [] [] (abs U B)) _ p (λ t.
     rw (last-none []) (copied-same n place (R ▹ single U) [] [] B (turned 1 p) (adequate-abs (single U) (fits-body R [] [] (abs U B) t) a)))
-copied-same (suc n) place R (w ∷ W) [] (abs U B) p a = tested-same place (places (w ∷ W)) (copied R (terms (w ∷ W)) [] (abs U B)) _ p (λ t.
-    rw (last-one (length (liftAll (terms W))) (w .place) (places W) (length-liftAll (terms W) ∙ sym (places-length W)))
+copied-same (suc n) place R (w ∷ W) [] (abs U B) p a = tested-same place (places (w ∷ W)) (copied R (termsOf (w ∷ W)) [] (abs U B)) _ p (λ t.
+    rw (last-one (length (liftAll (termsOf W))) (w .place) (places W) (length-liftAll (termsOf W) ∙ sym (places-length W)))
     (then-same R w U _ _ (turned 1 p) (λ q.
-    copied-same n place (R ▹ pair (w .term) U) (liftWaiting W) [] B q (adequate-abs (pair (w .term) U) (fits-body R (terms (w ∷ W)) [] (abs U B) t) a)
+    copied-same n place (R ▹ pair (w .term) U) (liftWaiting W) [] B q (adequate-abs (pair (w .term) U) (fits-body R (termsOf (w ∷ W)) [] (abs U B) t) a)
     ∙ ap (λ (l : List Item). finish l q) (lifted place W (λ L. copied (R ▹ pair (w .term) U) L [] B)))))
-copied-same (suc n) place R W (K ∷ Y) (abs U B) p a = tested-same place (places W) (copied R (terms W) (K ∷ Y) (abs U B)) _ p (λ t.
-    copied-same n place (R ▹ pair K U) (liftWaiting W) (liftAll Y) B (turned 1 p) (adequate-abs (pair K U) (fits-body R (terms W) (K ∷ Y) (abs U B) t) a)
+copied-same (suc n) place R W (K ∷ Y) (abs U B) p a = tested-same place (places W) (copied R (termsOf W) (K ∷ Y) (abs U B)) _ p (λ t.
+    copied-same n place (R ▹ pair K U) (liftWaiting W) (liftAll Y) B (turned 1 p) (adequate-abs (pair K U) (fits-body R (termsOf W) (K ∷ Y) (abs U B) t) a)
     ∙ ap (λ (l : List Item). finish l (turned 1 p)) (lifted place W (λ L. copied (R ▹ pair K U) L (liftAll Y) B))
-    ∙ rw (last-all (length (liftAll (terms W))) (places W) (length-liftAll (terms W) ∙ sym (places-length W))))
+    ∙ rw (last-all (length (liftAll (termsOf W))) (places W) (length-liftAll (termsOf W) ∙ sym (places-length W))))
 
 -- any number that is enough gives the same run
 pub any-enough : (m n place : ℕ) (R : Frame) (W : List Waiting) (Y : List Term) (B : Term) (p : Progress) → Adequate R B m → Adequate R B n
@@ -248,20 +248,20 @@ unfolding andThen
 then-then (passed q) f g = refl
 then-then (stopped h q) f g = refl
 
-own-same : (place : ℕ) (R : Frame) (W : List Waiting) (B : Term) (p : Progress) → ownFrom place R W B p ≡ finish (state-at place (places W) (own R (terms W) B) ∷ []) p
-unfolding ownFrom onePassNext follow placed groundOf atTau terms places domain
+own-same : (place : ℕ) (R : Frame) (W : List Waiting) (B : Term) (p : Progress) → ownFrom place R W B p ≡ finish (state-at place (places W) (own R (termsOf W) B) ∷ []) p
+unfolding ownFrom onePassNext follow placed groundOf atTau termsOf places domain
 own-same place R [] tau p = tested-same place [] (own R [] tau) _ p (λ t. sym (running .nothing (turned 1 p)))
-own-same place R (w ∷ W) tau p = tested-same place (places (w ∷ W)) (own R (terms (w ∷ W)) tau) _ p (λ t. rw (waiting-length W))
-own-same place R W (var k) p = tested-same place (places W) (own R (terms W) (var k)) _ p (λ t.
-    rw (last-all (length (terms W)) (places W) (sym (places-length W))) (copied-same (enough R (var k)) place R W [] (var k) (turned 1 p) (adequate-start R k)))
-own-same place R W (app K B) p = tested-same place (places W) (own R (terms W) (app K B)) _ p (λ t.
-    rw (last-none (place ∷ places W), last-all (suc (length (terms W))) (place ∷ places W) (ap suc (sym (places-length W))))
+own-same place R (w ∷ W) tau p = tested-same place (places (w ∷ W)) (own R (termsOf (w ∷ W)) tau) _ p (λ t. rw (waiting-length W))
+own-same place R W (var k) p = tested-same place (places W) (own R (termsOf W) (var k)) _ p (λ t.
+    rw (last-all (length (termsOf W)) (places W) (sym (places-length W))) (copied-same (enough R (var k)) place R W [] (var k) (turned 1 p) (adequate-start R k)))
+own-same place R W (app K B) p = tested-same place (places W) (own R (termsOf W) (app K B)) _ p (λ t.
+    rw (last-none (place ∷ places W), last-all (suc (length (termsOf W))) (place ∷ places W) (ap suc (sym (places-length W))))
     (two-same _ _ (ownFrom (suc place) R [] K) _ (turned 1 p) (own-same (suc place) R [] K (turned 1 p)) (own-same (suc place + size K) R (record { place = place; term = K } ∷ W) B)))
 own-same place R [] (abs U B) p = tested-same place [] (own R [] (abs U B)) _ p (λ t.
     rw (last-none (place ∷ []))
     (two-same _ _ (ownFrom (suc place) R [] U) _ (turned 1 p) (own-same (suc place) R [] U (turned 1 p)) (own-same (suc place + size U) (R ▹ single U) [] B)))
-own-same place R (w ∷ W) (abs U B) p = tested-same place (places (w ∷ W)) (own R (terms (w ∷ W)) (abs U B)) _ p (λ t.
-    rw (last-none (place ∷ w .place ∷ places W), last-two (length (liftAll (terms W))) place (w .place) (places W) (length-liftAll (terms W) ∙ sym (places-length W)))
+own-same place R (w ∷ W) (abs U B) p = tested-same place (places (w ∷ W)) (own R (termsOf (w ∷ W)) (abs U B)) _ p (λ t.
+    rw (last-none (place ∷ w .place ∷ places W), last-two (length (liftAll (termsOf W))) place (w .place) (places W) (length-liftAll (termsOf W) ∙ sym (places-length W)))
     (then-then (ownFrom (suc place) R [] U (turned 1 p)) (compareNext R w U) _
     ∙ ap₂ andThen (own-same (suc place) R [] U (turned 1 p)) (fun-ext (λ q. then-same R w U _ _ q (λ r.
     own-same (suc place + size U) (R ▹ pair (w .term) U) (liftWaiting W) B r
@@ -269,7 +269,7 @@ own-same place R (w ∷ W) (abs U B) p = tested-same place (places (w ∷ W)) (o
     ∙ sym (running .in-parts (state-at (suc place) [] (own R [] U) ∷ []) _ (turned 1 p))))
 
 same-answer : (t : Term) (gs : List Group) → recursive t gs ≡ checkTerm t gs
-unfolding recursive checkTerm places terms
+unfolding recursive checkTerm places termsOf
 same-answer t gs = own-same 0 ε [] t _
 
 pub recurring : Recurring

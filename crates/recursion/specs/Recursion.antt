@@ -20,9 +20,9 @@ pub record Waiting : Type 0 where
   pub term : Term
 
 -- W without the places.
-unfoldable pub terms : List Waiting → List Term
-terms [] = []
-terms (w ∷ W) = w .term ∷ terms W
+unfoldable pub termsOf : List Waiting → List Term
+termsOf [] = []
+termsOf (w ∷ W) = w .term ∷ termsOf W
 
 unfoldable pub places : List Waiting → List ℕ
 places [] = []
@@ -117,22 +117,22 @@ enough R t = degree R t * suc longestState + size t
 
 unfoldable pub copiedFrom : ℕ → ℕ → Frame → List Waiting → List Term → Term → Progress → Run
 copiedFrom zero place R W Y B p = stopped (not-reached place) p
-copiedFrom (suc n) place R W Y B p = tested (stateFits (copied R (terms W) Y B)) place (copiedRule (copiedFrom n place) place R W Y B) p
+copiedFrom (suc n) place R W Y B p = tested (stateFits (copied R (termsOf W) Y B)) place (copiedRule (copiedFrom n place) place R W Y B) p
 
 unfoldable pub ownFrom : ℕ → Frame → List Waiting → Term → Progress → Run
 -- (i)
-ownFrom place R W tau p = tested (stateFits (own R (terms W) tau)) place (atTau W) p
+ownFrom place R W tau p = tested (stateFits (own R (termsOf W) tau)) place (atTau W) p
 -- (iii)
-ownFrom place R W (app K B) p = tested (stateFits (own R (terms W) (app K B))) place (λ q.
+ownFrom place R W (app K B) p = tested (stateFits (own R (termsOf W) (app K B))) place (λ q.
     andThen (ownFrom (suc place) R [] K q) (ownFrom (suc place + size K) R (record { place = place; term = K } ∷ W) B)) p
 -- (iv)
 ownFrom place R [] (abs U B) p = tested (stateFits (own R [] (abs U B))) place (λ q.
     andThen (ownFrom (suc place) R [] U q) (ownFrom (suc place + size U) (R ▹ single U) [] B)) p
 -- (v)
-ownFrom place R (w ∷ W) (abs U B) p = tested (stateFits (own R (terms (w ∷ W)) (abs U B))) place (λ q.
+ownFrom place R (w ∷ W) (abs U B) p = tested (stateFits (own R (termsOf (w ∷ W)) (abs U B))) place (λ q.
     andThen (andThen (ownFrom (suc place) R [] U q) (compareNext R w U)) (ownFrom (suc place + size U) (R ▹ pair (w .term) U) (liftWaiting W) B)) p
 -- (vii)
-ownFrom place R W (var k) p = tested (stateFits (own R (terms W) (var k))) place (copiedFrom (enough R (var k)) place R W [] (var k)) p
+ownFrom place R W (var k) p = tested (stateFits (own R (termsOf W) (var k))) place (copiedFrom (enough R (var k)) place R W [] (var k)) p
 
 -- The check of a term with the groups of its file.
 unfoldable pub recursive : Term → List Group → Run

@@ -18,7 +18,7 @@ use Rattle.binders.specs.Paths.{subterm}
 use Rattle.binders.proofs.Laws.{scope-subterm}
 use Rattle.frames.specs.declared.FrameRecord.{FrameRecord}
 use Rattle.frames.specs.Body.{Body}
-use Rattle.indices.specs.Passes.{Standing, Measured, Lowerable, Lowered}
+use Rattle.indices.specs.Passes.{ShortTerm, Measured, Lowerable, Lowered}
 use Rattle.indices.proofs.Lowering.{lower-size, lower-scope, lower-coded}
 use Rattle.parts.specs.Parts.{Copied}
 use Rattle.steps.specs.declared.Pair.{Pair}
@@ -77,7 +77,7 @@ module _ {b : List ℕ} {n p : ℕ} {r : Pair} (i : InBuffer b n p) (g : PairFou
     here : {t : Term} → Stands b 0 n t → PairHere b t p r
     here {t} h = pair-found z (g .all t h)
 
-    pub rest-standing : Standing b (r .rest) (r .end)
+    pub rest-standing : ShortTerm b (r .rest) (r .end)
     rest-standing = let d = here (i .stands) in record { term = d .rest; stands = d .stands; short = omega (arith, stands-end (d .stands), i .buffer) }
 
     module _ {m : ℕ} {a : Bool} (h : Measured b (r .rest) (r .end) m a) where

@@ -23,10 +23,10 @@ use Rattle.binders.specs.declared.Found.{Found}
 use Rattle.binders.proofs.Laws.{subterm-closed, scope-subterm}
 use Rattle.frames.specs.declared.FrameRecord.{FrameRecord}
 use Rattle.frames.specs.declared.Span.{Span}
-use Rattle.frames.specs.Stored.{SpanOf, span-single, span-pair, Looked}
+use Rattle.frames.specs.Stored.{EntryParts, span-single, span-pair, Looked}
 use Rattle.frames.specs.Body.{Body, SomeBody}
 use Rattle.frames.proofs.Laws.{stored-depth}
-use Rattle.indices.specs.Passes.{Standing, Measured}
+use Rattle.indices.specs.Passes.{ShortTerm, Measured}
 use Rattle.steps.specs.declared.Partner.{Partner}
 use Rattle.steps.specs.Sources.{InBody, VariableAt, Source, in-frame, in-body, PartnerAt, no-partner-there, partner-there, Partnered, SomeSource, ShortSource, ScopeOf, Measurable, Fitting, fits-there, too-long, too-deep, Tested}
 use Rattle.steps.proofs.Trees.{stands-at, local-wrong, variable-here, local-alone}
@@ -109,21 +109,21 @@ module _ {w : List ℕ} {f : FrameRecord} {b : List ℕ} {n p k : ℕ} (v : Vari
             no-partner-there q (local-alone t p (there y) R (go (d .0) (d .2) (bound-by y .outside l R ∙ d .1)));
       }
         where
-          go : {o : Option Entry} (e : Entry) → SpanOf w s e → o ≡ some e → reduceVar k o ≡ refused no-partner
+          go : {o : Option Entry} (e : Entry) → EntryParts w s e → o ≡ some e → reduceVar k o ≡ refused no-partner
           go e (span-single i h) m = ap (reduceVar k) m
           go e (span-pair i j h u) m = absurd (omega arith)
 
       pub domain-positive : (s .applied ≡ 0 → ⊥) → 1 ≤ s .domain
       domain-positive z = let d = a .found (v .some-body .frame) (v .some-body .body .stored) in go (d .0) (d .2)
         where
-          go : (e : Entry) → SpanOf w s e → 1 ≤ s .domain
+          go : (e : Entry) → EntryParts w s e → 1 ≤ s .domain
           go e (span-single i h) = absurd (z i)
           go e (span-pair i j h u) = omega arith
 
       pub pair-outside : (s .applied ≡ 0 → ⊥) → Partnered w f b n p (record { found = true; framed = true; start = s .applied; end = s .domain - 1; index = k; depth = x .depth })
       pair-outside z = record { all = λ R t y. let d = a .found R (y .stored) in go R t y (d .0) (d .2) (bound-by y .outside l R ∙ d .1) }
         where
-          go : (R : Frame) (t : Term) → Body w f b n R t → (e : Entry) → SpanOf w s e → entryAt (frameAt R none t p) k ≡ some e
+          go : (R : Frame) (t : Term) → Body w f b n R t → (e : Entry) → EntryParts w s e → entryAt (frameAt R none t p) k ≡ some e
               → PartnerAt w b R t p (record { found = true; framed = true; start = s .applied; end = s .domain - 1; index = k; depth = x .depth })
           go R t y e (span-single i h) m = absurd (z i)
           go R t y e (span-pair i j h u) m = partner-there refl (there y) (bound-by y .in-scope) m (in-frame refl (stands-at refl (omega arith) h))
@@ -187,10 +187,10 @@ scope-small (app K B) = omega (arith, scope-small K, scope-small B)
 scope-small (abs U B) = omega (arith, scope-small U, scope-small B)
 
 module _ {w b : List ℕ} {p : ℕ} {r : Partner} where
-  pub framed-standing : r .framed ≡ true → ShortSource w b p r → Standing w (r .start) (r .end)
+  pub framed-standing : r .framed ≡ true → ShortSource w b p r → ShortTerm w (r .start) (r .end)
   framed-standing z h = record { term = h .some-source .term; stands = framed-stands z (h .some-source .source); short = h .short }
 
-  pub body-standing : r .framed ≡ false → ShortSource w b p r → Standing b (r .start) (r .end)
+  pub body-standing : r .framed ≡ false → ShortSource w b p r → ShortTerm b (r .start) (r .end)
   body-standing z h = record { term = h .some-source .term; stands = body-stands z (h .some-source .source); short = h .short }
 
   pub framed-scope : {m : ℕ} {u : Bool} → r .framed ≡ true → Measured w (r .start) (r .end) m u → ScopeOf w b p r m

@@ -11,7 +11,7 @@ ghost use Rattle.steps.specs.Sources.{InBody, VariableAt, Partnered, Sho
 ghost use Rattle.steps.specs.Writes.{Room, CopiedTo, Puttable, Put, Droppable, Dropped};
 ghost use Rattle.steps.specs.Answer.{Answers};
 use binders::find;
-use code::End;
+use code::TermEnd;
 use code::table;
 use code::term_end_by;
 use frames::FrameRecord;
@@ -203,7 +203,7 @@ fn end_of(t: &[i32; 256], body: &[u8; 4096], p: usize) -> usize
     ensures { λ r. ⌜ EndAt (now (body .entry)) p r ⌝ }
 {
     let all = &body[..];
-    let End::At(e) = term_end_by(t, all, p) else {
+    let TermEnd::At(e) = term_end_by(t, all, p) else {
         return p;
     };
     e

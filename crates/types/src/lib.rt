@@ -8,7 +8,7 @@ ghost use Rattle.frames.specs.Body.{SomeBody};
 ghost use Rattle.types.specs.Domains.{SomeTerm, EndsIn, Located, SomeDomain, DomainScope, DomainFits, DomainCopied, DomainWritable, DomainWritten};
 ghost use Rattle.types.specs.Typed.{Types};
 use binders::find;
-use code::End;
+use code::TermEnd;
 use code::table;
 use code::term_end_by;
 use frames::FrameRecord;
@@ -47,7 +47,7 @@ fn end_inside(t: &[i32; 256], body: &[u8; 4096], p: usize) -> usize
     ensures { λ r. ⌜ EndAt (now (body .entry)) p r ⌝ }
 {
     let all = &body[..];
-    let End::At(e) = term_end_by(t, all, p) else {
+    let TermEnd::At(e) = term_end_by(t, all, p) else {
         return p;
     };
     e

@@ -13,15 +13,15 @@ use Rattle.calculus.proofs.Demand.{counts, fewer}
 use Rattle.verdict.specs.Bounds.{stateFits}
 use Rattle.verdict.specs.Verdict.{Item, state-at, same-at, placed, Ground, state-outgrown, groundOf, Progress, turned, Run, passed, stopped, on-state, done, toTurn, replaced, turn}
 use Rattle.verdict.specs.Verdict.{states, steps, finish}
-use Rattle.verdict.specs.Claims.{Fits}
+use Rattle.verdict.specs.Claims.{StateFits}
 use Rattle.verdict.proofs.Turns.{Leads, here, turn-to, leads-then, run-leads, Meets, Refuses, Compared, meets, refuses, comparing}
 
 -- k turns from the first question to the end
 pub data BigStep : ℕ → List Item → Progress → Run → Type 0 where
   big-end : {p : Progress} → BigStep 0 [] p (passed p)
   big-outgrown : {i : ℕ} {ws : List ℕ} {s : State} {rest : List Item} {p : Progress} → stateFits s ≡ false → BigStep 1 (state-at i ws s ∷ rest) p (stopped (state-outgrown i) (turned 1 p))
-  big-wanting : {i : ℕ} {ws : List ℕ} {s : State} {x : Stop} {rest : List Item} {p : Progress} → Fits s → onePassNext s ≡ stops x → BigStep 1 (state-at i ws s ∷ rest) p (stopped (groundOf i ws x) (turned 1 p))
-  big-asks : {k i : ℕ} {ws : List ℕ} {s : State} {qs : List Question} {rest : List Item} {p : Progress} {x : Run} → Fits s → onePassNext s ≡ asks qs
+  big-wanting : {i : ℕ} {ws : List ℕ} {s : State} {x : Stop} {rest : List Item} {p : Progress} → StateFits s → onePassNext s ≡ stops x → BigStep 1 (state-at i ws s ∷ rest) p (stopped (groundOf i ws x) (turned 1 p))
+  big-asks : {k i : ℕ} {ws : List ℕ} {s : State} {qs : List Question} {rest : List Item} {p : Progress} {x : Run} → StateFits s → onePassNext s ≡ asks qs
       → BigStep k (placed i (suc i) ws qs ++ rest) (turned 1 p) x → BigStep (suc k) (state-at i ws s ∷ rest) p x
   big-met : {j k i : ℕ} {R : Frame} {K U : Term} {rest : List Item} {p q : Progress} {x : Run} → Meets i R K U p q j → BigStep k rest q x → BigStep (j + k) (same-at i R K U ∷ rest) p x
   big-refused : {k i : ℕ} {R : Frame} {K U : Term} {rest : List Item} {p q : Progress} {g : Ground} → Refuses i R K U p g q k → BigStep k (same-at i R K U ∷ rest) p (stopped g q)
@@ -67,7 +67,7 @@ ran-state : (i : ℕ) (ws : List ℕ) (s : State) (rest : List Item) (p : Progre
 unfolding states turned
 ran-state i ws s rest p ih = fitting (stateFits s) refl
   where
-    ruled : Fits s → (n : Next) → onePassNext s ≡ n → Ran (state-at i ws s ∷ rest) p
+    ruled : StateFits s → (n : Next) → onePassNext s ≡ n → Ran (state-at i ws s ∷ rest) p
     ruled h (asks qs) e =
         let r = ih qs e in
         record { many = suc (r .many); result = r .result; big = big-asks h e (r .big); few = omega (arith, r .few, states-placed i (suc i) ws qs rest, fewer s e) }

@@ -12,7 +12,7 @@ use Rattle.calculus.specs.Rules.{Group, liftAll, State, own, Next, asks, stops,
 use Rattle.calculus.specs.Walks.{ownStates, frameStates, statesOf}
 use Rattle.calculus.proofs.Agree.{length-liftAll}
 use Rattle.verdict.specs.Verdict.{Item, state-at, same-at, last, placed, Progress, turned, Run, andThen, Status, done, states, steps, finish, asked, begun, start, checkTerm}
-use Rattle.verdict.specs.Claims.{Fits, follow, Running, afterTurns, progressOf, Turning}
+use Rattle.verdict.specs.Claims.{StateFits, follow, Running, afterTurns, progressOf, Turning}
 use Rattle.verdict.proofs.Turns.{Leads, here, by-turn}
 use Rattle.verdict.proofs.BigStep.{BigStep, big-end, big-outgrown, big-wanting, big-asks, big-met, big-refused, big-leads, finish-big, finish-is}
 use Rattle.verdict.proofs.Stop.{turns-taken}
@@ -31,7 +31,7 @@ big-append (big-refused {k = k} r) js = (k, big-refused r)
 in-parts : (is js : List Item) (p : Progress) → finish (is ++ js) p ≡ andThen (finish is p) (finish js)
 in-parts is js p = finish-is (big-append (finish-big is p .1) js .1)
 
-by-its-rule : (i : ℕ) (ws : List ℕ) (s : State) (p : Progress) → Fits s → finish (state-at i ws s ∷ []) p ≡ follow i ws (onePassNext s) (turned 1 p)
+by-its-rule : (i : ℕ) (ws : List ℕ) (s : State) (p : Progress) → StateFits s → finish (state-at i ws s ∷ []) p ≡ follow i ws (onePassNext s) (turned 1 p)
 unfolding follow
 by-its-rule i ws s p h = go (onePassNext s) refl
   where
@@ -65,7 +65,7 @@ then-is f q = ap (λ (x : Run). andThen x f) q
 two-parts : (a b : Item) (p : Progress) → finish (a ∷ b ∷ []) p ≡ andThen (finish (a ∷ []) p) (finish (b ∷ []))
 two-parts a b p = in-parts (a ∷ []) (b ∷ []) p
 
-at-app : (i : ℕ) (ws : List ℕ) (R : Frame) (W : List Term) (K B : Term) (p : Progress) → length ws ≡ length W → Fits (own R W (app K B))
+at-app : (i : ℕ) (ws : List ℕ) (R : Frame) (W : List Term) (K B : Term) (p : Progress) → length ws ≡ length W → StateFits (own R W (app K B))
     → finish (state-at i ws (own R W (app K B)) ∷ []) p
     ≡ andThen (finish (state-at (suc i) [] (own R [] K) ∷ []) (turned 1 p)) (finish (state-at (suc i + size K) (i ∷ ws) (own R (K ∷ W) B) ∷ []))
 unfolding onePassNext follow placed
@@ -74,7 +74,7 @@ at-app i ws R W K B p l h =
     ∙ two-parts _ _ (turned 1 p)
     ∙ rw (last-none (i ∷ ws), last-all (length (K ∷ W)) (i ∷ ws) (ap suc (sym l)))
 
-at-abs : (i : ℕ) (R : Frame) (U B : Term) (p : Progress) → Fits (own R [] (abs U B))
+at-abs : (i : ℕ) (R : Frame) (U B : Term) (p : Progress) → StateFits (own R [] (abs U B))
     → finish (state-at i [] (own R [] (abs U B)) ∷ []) p
     ≡ andThen (finish (state-at (suc i) [] (own R [] U) ∷ []) (turned 1 p)) (finish (state-at (suc i + size U) [] (own (R ▹ single U) [] B) ∷ []))
 unfolding onePassNext follow placed
@@ -83,7 +83,7 @@ at-abs i R U B p h =
     ∙ two-parts _ _ (turned 1 p)
     ∙ rw (last-none (i ∷ []))
 
-at-pair : (i j : ℕ) (ws : List ℕ) (R : Frame) (W : List Term) (K U B : Term) (p : Progress) → length ws ≡ length W → Fits (own R (K ∷ W) (abs U B))
+at-pair : (i j : ℕ) (ws : List ℕ) (R : Frame) (W : List Term) (K U B : Term) (p : Progress) → length ws ≡ length W → StateFits (own R (K ∷ W) (abs U B))
     → finish (state-at i (j ∷ ws) (own R (K ∷ W) (abs U B)) ∷ []) p
     ≡ andThen (finish (state-at (suc i) [] (own R [] U) ∷ []) (turned 1 p)) (λ q. andThen (finish (same-at j R K U ∷ []) q)
     (finish (state-at (suc i + size U) ws (own (R ▹ pair K U) (liftAll W) B) ∷ [])))

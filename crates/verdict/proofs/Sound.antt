@@ -9,7 +9,7 @@ use Rattle.calculus.specs.Terms.{Term, size}
 use Rattle.calculus.specs.Frames.{Frame}
 use Rattle.calculus.specs.Rules.{Group, Same, State, own, copied, compare, Question, holds, same, Next, asks, onePassNext, Holds, nothing-left, met, by-rule, groups}
 use Rattle.verdict.specs.Verdict.{Item, state-at, same-at, placed, Progress, turned, Run, passed}
-use Rattle.verdict.specs.Claims.{SameFits, Fits, AllFit}
+use Rattle.verdict.specs.Claims.{SameFits, StateFits, AllFit}
 use Rattle.verdict.proofs.Runs.{no-pass, pass-inj}
 use Rattle.verdict.proofs.Turns.{Meets, compare-complete}
 use Rattle.verdict.proofs.BigStep.{BigStep, big-end, big-outgrown, big-wanting, big-asks, big-met, big-refused}
@@ -72,7 +72,7 @@ parts (same (compare R K U) ∷ ps) qs (met s d) w =
       both = ap (λ (l : List Group). s .group ∷ l) (r .both);
     }
 
-check-state : {s : State} {qs : List Question} (rest : List Question) {p q : Progress} → Fits s → onePassNext s ≡ asks qs → Checked (qs ++ rest) (turned 1 p) q → Checked (holds s ∷ rest) p q
+check-state : {s : State} {qs : List Question} (rest : List Question) {p q : Progress} → StateFits s → onePassNext s ≡ asks qs → Checked (qs ++ rest) (turned 1 p) q → Checked (holds s ∷ rest) p q
 unfolding groups turned
 check-state {s} {qs} rest {p} {q} h e c =
     let r = parts qs rest (c .derivation) (c .within) in
@@ -84,7 +84,7 @@ check-state {s} {qs} rest {p} {q} h e c =
       counted = c .counted ∙ ap (λ (l : List Group). p .comparisons + length l) (r .both ∙ ap (λ (l : List Group). l ++ groups (r .back)) (sym (x .2)));
     }
   where
-    ruled : Fits s → {n : Next} → asks qs ≡ n → (d : Holds onePassNext (asks qs)) → AllFit d → (c : Holds onePassNext n) × AllFit c × (groups c ≡ groups d)
+    ruled : StateFits s → {n : Next} → asks qs ≡ n → (d : Holds onePassNext (asks qs)) → AllFit d → (c : Holds onePassNext n) × AllFit c × (groups c ≡ groups d)
     ruled h q d w = rw (← q) (d, w, refl)
 
 pub sound : {k : ℕ} {is : List Item} {p : Progress} {x : Run} {qs : List Question} → BigStep k is p x → Asks qs is → (q : Progress) → x ≡ passed q → Checked qs p q
@@ -122,7 +122,7 @@ pub data AsksFor : Next → List Item → Type 0 where
 asked : {n : Next} {qs : List Question} {is : List Item} → n ≡ asks qs → Asks qs is → AsksFor n is
 asked e a = rw e (asks-for a)
 
-goes-state : {i : ℕ} {ws : List ℕ} {s : State} {qs : List Question} {is : List Item} {p : Progress} {gs rest : List Group} {m n : ℕ} → Fits s → onePassNext s ≡ asks qs
+goes-state : {i : ℕ} {ws : List ℕ} {s : State} {qs : List Question} {is : List Item} {p : Progress} {gs rest : List Group} {m n : ℕ} → StateFits s → onePassNext s ≡ asks qs
     → (a : Goes (placed i (suc i) ws qs) (turned 1 p) gs m) → Goes is (a .end) rest n → Goes (state-at i ws s ∷ is) p rest (m + n)
 unfolding turned
 goes-state {is = is} h e a b = record {
@@ -144,7 +144,7 @@ complete-met : {i : ℕ} {R : Frame} {K U : Term} (s : Same R K U) → SameFits 
     → ((q : Progress) → q .left ≡ gs → Goes is q rest n) → Goes (same-at i R K U ∷ is) p rest (suc n)
 complete-met {i} {R} {K} {U} s f n p gs rest l g = let c = compare-complete i R K U s gs p f l in goes-met (c .2) (g (c .0) (c .3))
 
-complete-state : {s : State} (i : ℕ) (ws : List ℕ) {is : List Item} → Fits s → (gs hs : List Group) (p : Progress) (rest : List Group) → p .left ≡ (gs ++ hs) ++ rest
+complete-state : {s : State} (i : ℕ) (ws : List ℕ) {is : List Item} → StateFits s → (gs hs : List Group) (p : Progress) (rest : List Group) → p .left ≡ (gs ++ hs) ++ rest
     → (r : (qs : List Question) × (onePassNext s ≡ asks qs)) → (Goes (placed i (suc i) ws (r .0)) (turned 1 p) (hs ++ rest) (length gs)) → ((q : Progress) → q .left ≡ hs ++ rest → Goes is q rest (length hs))
     → Goes (state-at i ws s ∷ is) p rest (length (gs ++ hs))
 complete-state i ws h gs hs p rest l r a b = rw (length-append gs hs) (goes-state h (r .1) a (b (a .end) (a .left)))

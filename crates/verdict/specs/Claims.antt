@@ -26,18 +26,18 @@ pub record SameFits {R : Frame} {K U : Term} (s : Same R K U) : Type 0 where
   pub left-fits : FormsFit R (s .group .left) (s .typ)
   pub right-fits : FormsFit R (s .group .right) U
 
-abbrev pub Fits : State → Type 0
-Fits s = stateFits s ≡ true
+abbrev pub StateFits : State → Type 0
+StateFits s = stateFits s ≡ true
 
 -- What a state is replaced by: every state that it leads to, and every comparison.
 abbrev pub AllFit : {next : State → Next} {n : Next} → Holds next n → Type 0
 AllFit nothing-left = Unit {0}
 AllFit (met s d) = SameFits s × AllFit d
-AllFit (by-rule {s = s} c d) = Fits s × AllFit c × AllFit d
+AllFit (by-rule {s = s} c d) = StateFits s × AllFit c × AllFit d
 
 -- A derivation of a state, all of whose states and compared forms are within the limits.
 pub record Within (s : State) (d : OnePass s) : Type 0 where
-  pub first : Fits s
+  pub first : StateFits s
   pub others : AllFit d
 
 -- 1. What passes, and what must pass.
@@ -73,15 +73,15 @@ pub record Running : Type 0 where
   -- running a list of questions is running its first part and then the rest
   pub in-parts : (is js : List Item) (p : Progress) → finish (is ++ js) p ≡ andThen (finish is p) (finish js)
   pub outgrown : (i : ℕ) (ws : List ℕ) (s : State) (p : Progress) → stateFits s ≡ false → finish (state-at i ws s ∷ []) p ≡ stopped (state-outgrown i) (turned 1 p)
-  pub by-its-rule : (i : ℕ) (ws : List ℕ) (s : State) (p : Progress) → Fits s → finish (state-at i ws s ∷ []) p ≡ follow i ws (onePassNext s) (turned 1 p)
+  pub by-its-rule : (i : ℕ) (ws : List ℕ) (s : State) (p : Progress) → StateFits s → finish (state-at i ws s ∷ []) p ≡ follow i ws (onePassNext s) (turned 1 p)
   -- so in the term's own text: K before the rest; U, then the comparison, then the rest
-  pub at-app : (i : ℕ) (ws : List ℕ) (R : Frame) (W : List Term) (K B : Term) (p : Progress) → length ws ≡ length W → Fits (own R W (app K B))
+  pub at-app : (i : ℕ) (ws : List ℕ) (R : Frame) (W : List Term) (K B : Term) (p : Progress) → length ws ≡ length W → StateFits (own R W (app K B))
       → finish (state-at i ws (own R W (app K B)) ∷ []) p
       ≡ andThen (finish (state-at (suc i) [] (own R [] K) ∷ []) (turned 1 p)) (finish (state-at (suc i + size K) (i ∷ ws) (own R (K ∷ W) B) ∷ []))
-  pub at-abs : (i : ℕ) (R : Frame) (U B : Term) (p : Progress) → Fits (own R [] (abs U B))
+  pub at-abs : (i : ℕ) (R : Frame) (U B : Term) (p : Progress) → StateFits (own R [] (abs U B))
       → finish (state-at i [] (own R [] (abs U B)) ∷ []) p
       ≡ andThen (finish (state-at (suc i) [] (own R [] U) ∷ []) (turned 1 p)) (finish (state-at (suc i + size U) [] (own (R ▹ single U) [] B) ∷ []))
-  pub at-pair : (i j : ℕ) (ws : List ℕ) (R : Frame) (W : List Term) (K U B : Term) (p : Progress) → length ws ≡ length W → Fits (own R (K ∷ W) (abs U B))
+  pub at-pair : (i j : ℕ) (ws : List ℕ) (R : Frame) (W : List Term) (K U B : Term) (p : Progress) → length ws ≡ length W → StateFits (own R (K ∷ W) (abs U B))
       → finish (state-at i (j ∷ ws) (own R (K ∷ W) (abs U B)) ∷ []) p
       ≡ andThen (finish (state-at (suc i) [] (own R [] U) ∷ []) (turned 1 p)) (λ q. andThen (finish (same-at j R K U ∷ []) q)
       (finish (state-at (suc i + size U) ws (own (R ▹ pair K U) (liftAll W) B) ∷ [])))

@@ -5,6 +5,7 @@ use mathlib.Core.Path.{_≡_}
 use mathlib.Core.List.{List, [], _∷_, map}
 use Rattle.calculus.specs.Terms.{Term, tau, var, app, abs}
 use Rattle.calculus.specs.Rules.{Group}
+use Rattle.calculus.specs.Examples.{no-steps, e2}
 use Rattle.verdict.specs.Verdict.{checkTerm}
 use Rattle.verdict.specs.Claims.{progressOf}
 
@@ -15,13 +16,6 @@ pub record Example : Type 0 where
 
 abbrev pub takes : Term → List Group → ℕ → Example
 takes t gs n = record { term = t; groups = gs; turns = n }
-
--- document 01's E2, [τ][1]⟨1⟩[2]1
-abbrev pub e2 : Term
-e2 = abs tau (abs (var 1) (app (var 1) (abs (var 2) (var 1))))
-
-abbrev pub no-steps : Group
-no-steps = record { left = []; right = [] }
 
 abbrev pub unknown-kind : Group
 unknown-kind = record { left = record { kind = 9; place = 0 } ∷ []; right = [] }

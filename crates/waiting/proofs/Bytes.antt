@@ -15,9 +15,9 @@ use Rattle.code.specs.Claims.{Stands}
 use Rattle.code.proofs.Parts.{stands-start, stands-end, stands-taken, stands-unique}
 use Rattle.frames.specs.Stored.{Agree}
 use Rattle.frames.proofs.Entries.{agree-refl, agree-part, agree-trans, agree-set, agree-take, stands-agree}
-use Rattle.indices.specs.Passes.{Standing, Replaced, Liftable, LiftableAbove}
+use Rattle.indices.specs.Passes.{ShortTerm, Replaced, Liftable, LiftableAbove}
 use Rattle.indices.proofs.Replace.{lifted-stands, before-same}
-use Rattle.waiting.specs.Waiting.{queueLength, slotOf, Noted, Moved, Written, Writable, Puts}
+use Rattle.waiting.specs.Waiting.{queueLength, slotOf, Noted, Moved, WrittenTerm, Writable, Puts}
 use Rattle.waiting.specs.declared.Slot.{Slot}
 
 -- ---- Numbers noted.
@@ -115,7 +115,7 @@ module _ (mark : ℕ) {p e n c k to : ℕ} {s w : List ℕ} (x : Writable s w p 
     copied-length : length w₁ ≡ longestState
     copied-length = m .same-length ∙ length-set w to mark ∙ x .work
 
-    pub standing : Standing w₁ (to + 1) (to + 1 + (e - p))
+    pub standing : ShortTerm w₁ (to + 1) (to + 1 + (e - p))
     standing = record { term = x .raw; stands = copied; short = omega (arith, x .stands .place, x .short) }
 
     pub above-asked : LiftableAbove w₁ (to + 1) (to + 1 + (e - p)) n c

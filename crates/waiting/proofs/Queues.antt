@@ -18,25 +18,25 @@ use Rattle.code.proofs.Scope.{scope-lift, closed-coded}
 use Rattle.frames.specs.Stored.{Agree}
 use Rattle.frames.proofs.Entries.{agree-part, stands-agree}
 use Rattle.verdict.specs.Bounds.{waitingSize, waitingScope}
-use Rattle.recursion.specs.Recursion.{Waiting, terms, liftWaiting}
-use Rattle.waiting.specs.Waiting.{Part, queueLength, slotOf, Waits, Queue, queue-none, queue-one, within, Figured, Fitted, Written, Writable, Puts, TopAsked, TopPut}
+use Rattle.recursion.specs.Recursion.{Waiting, termsOf, liftWaiting}
+use Rattle.waiting.specs.Waiting.{Part, queueLength, slotOf, Waits, Queue, queue-none, queue-one, within, WaitingExtent, Fitted, WrittenTerm, Writable, Puts, TopAsked, TopPut}
 use Rattle.waiting.specs.declared.Slot.{Slot}
-use Rattle.waiting.specs.declared.Figures.{Figures}
+use Rattle.waiting.specs.declared.Extent.{Extent}
 use Rattle.waiting.proofs.Texts.{positive}
 
-pub size-lifted : (W : List Waiting) → waitingSize (terms (liftWaiting W)) ≡ waitingSize (terms W)
-unfolding waitingSize terms liftWaiting
+pub size-lifted : (W : List Waiting) → waitingSize (termsOf (liftWaiting W)) ≡ waitingSize (termsOf W)
+unfolding waitingSize termsOf liftWaiting
 size-lifted [] = refl
 size-lifted (w ∷ W) = omega (arith, size-lift 1 0 (w .term), size-lifted W)
 
-pub scope-lifted : (W : List Waiting) → waitingScope (terms (liftWaiting W)) ≡ waitingScope (terms W)
-unfolding waitingScope terms liftWaiting
+pub scope-lifted : (W : List Waiting) → waitingScope (termsOf (liftWaiting W)) ≡ waitingScope (termsOf W)
+unfolding waitingScope termsOf liftWaiting
 scope-lifted [] = refl
 scope-lifted (w ∷ W) = omega (arith, scope-lift 1 0 (w .term), scope-lifted W)
 
 -- each has at least two symbols
-pub queue-length : {s q : List ℕ} {d limit base top : ℕ} {W : List Waiting} → Queue s q d limit base top W → top + top ≤ base + base + waitingSize (terms W)
-unfolding waitingSize terms
+pub queue-length : {s q : List ℕ} {d limit base top : ℕ} {W : List Waiting} → Queue s q d limit base top W → top + top ≤ base + base + waitingSize (termsOf W)
+unfolding waitingSize termsOf
 queue-length (queue-none a) = omega arith
 queue-length (queue-one {w = w} a b x r) = omega (arith, queue-length r, positive (w .term))
 
@@ -107,13 +107,13 @@ pub top-put : {s q w w′ : List ℕ} {d limit base top to r : ℕ} {v : Slot} �
 top-put {s} {q} {w} {w′} {d} {limit} {base} {top} {to} {r} {v} e p = record { all = λ x W k. let h = queue-top k .0 in rw (h .seen) (slots e p (h .raw) (rw add-one (h .stands))) }
   where
     slots : {u : Slot} → v ≡ u → Puts 0xfe s w w′ (v .place + 1) (v .end) (v .shift) (v .cut) (d - v .depth) to r → (K : Term) → Stands s (u .place + 1) (u .end) K
-        → Written 0xfe w w′ to r (lift (d - u .depth) 0 (lift (u .shift) (u .cut) K))
+        → WrittenTerm 0xfe w w′ to r (lift (d - u .depth) 0 (lift (u .shift) (u .cut) K))
     slots e p K h = rw (← e) (p .all K (rw e h))
 
 -- one abstractor passed
 waits-deeper : {s : List ℕ} {d limit : ℕ} {v : Slot} {w : Waiting} {W : List Waiting} → Waits s d limit v w W
     → Waits s (suc d) limit v (record { place = w .place; term = lift 1 0 (w .term) }) (liftWaiting W)
-unfolding waitingSize waitingScope terms liftWaiting
+unfolding waitingSize waitingScope termsOf liftWaiting
 waits-deeper {d = d} {v = v} {w = w} {W = W} x = record {
   raw = x .raw;
   stands = x .stands;
@@ -170,19 +170,19 @@ pub queue-keep : {s q q′ : List ℕ} {d limit base top k : ℕ} {W : List Wait
 queue-keep a h (queue-none b) = queue-none b
 queue-keep a h (queue-one {j = j} b c x r) = queue-one b c (waits-at (slot-same j a (omega arith)) x) (queue-keep a (omega arith) r)
 
--- ---- The figures.
+-- ---- The size and the scope of what waits.
 module _ {q : List ℕ} {base top : ℕ} where
-  pub no-figures : top ≡ base → Figured q base top (record { size = 0; scope = 0 })
-  unfolding waitingSize waitingScope terms
-  no-figures h = record {
+  pub no-extent : top ≡ base → WaitingExtent q base top (record { size = 0; scope = 0 })
+  unfolding waitingSize waitingScope termsOf
+  no-extent h = record {
     size-bound = omega arith;
     scope-bound = omega arith;
     size-is = λ s d limit W x. rw (queue-empty x h);
     scope-is = λ s d limit W x. rw (queue-empty x h);
   }
 
-  pub some-figures : {v : Slot} → v ≡ slotOf q (top - 1) → v .size < 65536 → v .scope < 65536 → (top ≡ base → ⊥) → Figured q base top (record { size = v .size; scope = v .scope })
-  some-figures {v} e f g h = record {
+  pub some-extent : {v : Slot} → v ≡ slotOf q (top - 1) → v .size < 65536 → v .scope < 65536 → (top ≡ base → ⊥) → WaitingExtent q base top (record { size = v .size; scope = v .scope })
+  some-extent {v} e f g h = record {
     size-bound = f;
     scope-bound = g;
     size-is = λ s d limit W x. let l = queue-last x h in rw (l .is) (ap (λ u. u .size) e ∙ l .slot .total);
@@ -190,13 +190,13 @@ module _ {q : List ℕ} {base top : ℕ} where
   }
 
 -- ---- The test.
-module _ {ws ys : List ℕ} {base top ytop end depth size scope : ℕ} {w y : Figures} (f : Figured ws base top w) (g : Figured ys 0 ytop y) where
+module _ {ws ys : List ℕ} {base top ytop end depth size scope : ℕ} {w y : Extent} (f : WaitingExtent ws base top w) (g : WaitingExtent ys 0 ytop y) where
   pub too-large : longestState < end + (w .size + (y .size + size)) → Fitted ws ys base top ytop end depth size scope false
-  too-large h = record { is = λ s s′ d d′ l l′ W Q a b. sym (rw (lt-leb (end + (waitingSize (terms W) + (waitingSize (terms Q) + size))) longestState (omega (arith, f .size-is s d l W a, g .size-is s′ d′ l′ Q b)))) }
+  too-large h = record { is = λ s s′ d d′ l l′ W Q a b. sym (rw (lt-leb (end + (waitingSize (termsOf W) + (waitingSize (termsOf Q) + size))) longestState (omega (arith, f .size-is s d l W a, g .size-is s′ d′ l′ Q b)))) }
 
   pub tested-scope : {m n : ℕ} {r : Bool} → end + (w .size + (y .size + size)) ≤ longestState → m ≡ max (y .scope) scope → n ≡ max (w .scope) m → r ≡ leb (depth + n) mostAbstractors → Fitted ws ys base top ytop end depth size scope r
   tested-scope {m} {n} h i j k = record {
     is = λ s s′ d d′ l l′ W Q a b.
-        let e : depth + n ≡ depth + max (waitingScope (terms W)) (max (waitingScope (terms Q)) scope) = omega (arith, f .scope-is s d l W a, g .scope-is s′ d′ l′ Q b) in
-        k ∙ ap (λ x. leb x mostAbstractors) e ∙ sym (rw (le-leb (end + (waitingSize (terms W) + (waitingSize (terms Q) + size))) longestState (omega (arith, f .size-is s d l W a, g .size-is s′ d′ l′ Q b))));
+        let e : depth + n ≡ depth + max (waitingScope (termsOf W)) (max (waitingScope (termsOf Q)) scope) = omega (arith, f .scope-is s d l W a, g .scope-is s′ d′ l′ Q b) in
+        k ∙ ap (λ x. leb x mostAbstractors) e ∙ sym (rw (le-leb (end + (waitingSize (termsOf W) + (waitingSize (termsOf Q) + size))) longestState (omega (arith, f .size-is s d l W a, g .size-is s′ d′ l′ Q b))));
   }

@@ -13,8 +13,8 @@ use Rattle.code.specs.Claims.{Stands}
 use Rattle.code.specs.Scope.{scope}
 use Rattle.frames.specs.Stored.{Agree}
 use Rattle.verdict.specs.Bounds.{waitingSize, waitingScope}
-use Rattle.recursion.specs.Recursion.{Waiting, terms}
-use Rattle.waiting.specs.declared.Figures.{Figures}
+use Rattle.recursion.specs.Recursion.{Waiting, termsOf}
+use Rattle.waiting.specs.declared.Extent.{Extent}
 use Rattle.waiting.specs.declared.Slot.{Slot}
 use lib.Dec.{leb}
 
@@ -44,8 +44,8 @@ pub record Waits (s : List ℕ) (d limit : ℕ) (v : Slot) (w : Waiting) (W : Li
   pub deep : v .depth ≤ d
   pub is-place : w .place ≡ v .place
   pub seen : w .term ≡ lift (d - v .depth) 0 (lift (v .shift) (v .cut) raw)
-  pub total : v .size ≡ waitingSize (terms (w ∷ W))
-  pub most : v .scope ≡ waitingScope (terms (w ∷ W))
+  pub total : v .size ≡ waitingSize (termsOf (w ∷ W))
+  pub most : v .scope ≡ waitingScope (termsOf (w ∷ W))
 
 -- The waiting applicators W, from the base to the top, the last first.
 pub data Queue (s q : List ℕ) (d limit base : ℕ) : ℕ → List Waiting → Type 0 where
@@ -74,16 +74,16 @@ pub record Noted (q q′ : List ℕ) (j : ℕ) (v : Slot) : Type 0 where
   pub slot : slotOf q′ j ≡ v
 
 -- The size and the scope of what waits.
-pub record Figured (q : List ℕ) (base top : ℕ) (r : Figures) : Type 0 where
+pub record WaitingExtent (q : List ℕ) (base top : ℕ) (r : Extent) : Type 0 where
   pub size-bound : r .size < 65536
   pub scope-bound : r .scope < 65536
-  pub size-is : (s : List ℕ) (d limit : ℕ) (W : List Waiting) → Queue s q d limit base top W → r .size ≡ waitingSize (terms W)
-  pub scope-is : (s : List ℕ) (d limit : ℕ) (W : List Waiting) → Queue s q d limit base top W → r .scope ≡ waitingScope (terms W)
+  pub size-is : (s : List ℕ) (d limit : ℕ) (W : List Waiting) → Queue s q d limit base top W → r .size ≡ waitingSize (termsOf W)
+  pub scope-is : (s : List ℕ) (d limit : ℕ) (W : List Waiting) → Queue s q d limit base top W → r .scope ≡ waitingScope (termsOf W)
 
 -- The test for 11.
 pub record Fitted (ws ys : List ℕ) (base top ytop end depth size scope : ℕ) (r : Bool) : Type 0 where
   pub is : (s s′ : List ℕ) (d d′ limit limit′ : ℕ) (W Q : List Waiting) → Queue s ws d limit base top W → Queue s′ ys d′ limit′ 0 ytop Q
-      → r ≡ within (end + (waitingSize (terms W) + (waitingSize (terms Q) + size))) (depth + max (waitingScope (terms W)) (max (waitingScope (terms Q)) scope))
+      → r ≡ within (end + (waitingSize (termsOf W) + (waitingSize (termsOf Q) + size))) (depth + max (waitingScope (termsOf W)) (max (waitingScope (termsOf Q)) scope))
 
 -- BYTES
 -- n bytes of s from p stand in w′ from `to`; below, w′ is w.
@@ -93,7 +93,7 @@ pub record Moved (s w w′ : List ℕ) (p n to : ℕ) : Type 0 where
   pub same : (i : ℕ) → i < n → getD w′ (to + i) 0 ≡ getD s (p + i) 0
 
 -- A mark and then L were written from `to` up to e.
-pub record Written (mark : ℕ) (w w′ : List ℕ) (to e : ℕ) (L : Term) : Type 0 where
+pub record WrittenTerm (mark : ℕ) (w w′ : List ℕ) (to e : ℕ) (L : Term) : Type 0 where
   pub work : length w′ ≡ longestState
   pub below : Agree w w′ 0 to
   pub marked : getD w′ to 0 ≡ mark
@@ -111,7 +111,7 @@ pub record Writable (s w : List ℕ) (p e n c m to : ℕ) : Type 0 where
   pub room : to + suc (size raw) ≤ longestState
 
 pub record Puts (mark : ℕ) (s w w′ : List ℕ) (p e n c m to r : ℕ) : Type 0 where
-  pub all : (K : Term) → Stands s p e K → Written mark w w′ to r (lift m 0 (lift n c K))
+  pub all : (K : Term) → Stands s p e K → WrittenTerm mark w w′ to r (lift m 0 (lift n c K))
 
 -- The last of what waits can be written at `to`, and was.
 pub record TopAsked (s q w : List ℕ) (d limit base top to : ℕ) : Type 0 where
@@ -124,4 +124,4 @@ pub record TopAsked (s q w : List ℕ) (d limit base top to : ℕ) : Type 0 wher
   pub few : top ≤ 4096
 
 pub record TopPut (s q w w′ : List ℕ) (d limit base top to r : ℕ) : Type 0 where
-  pub all : (x : Waiting) (W : List Waiting) → Queue s q d limit base top (x ∷ W) → Written 0xfe w w′ to r (x .term)
+  pub all : (x : Waiting) (W : List Waiting) → Queue s q d limit base top (x ∷ W) → WrittenTerm 0xfe w w′ to r (x .term)

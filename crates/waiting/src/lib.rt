@@ -4,13 +4,22 @@ ghost use mathlib.Core.Bool.{false};
 ghost use Prim.Native.Nat.{_+_, _-_, _*_, _≤_, _<_, max};
 ghost use lib.ListN.{length};
 ghost use Rattle.code.specs.Limits.{longestState};
-ghost use Rattle.waiting.specs.Waiting.{queueLength, slotOf, within, SmallSlot, Noted, Figured, Fitted, Moved, Writable, Puts, TopAsked, TopPut};
+ghost use Rattle.waiting.specs.Waiting.{queueLength, slotOf, within, SmallSlot, Noted, WaitingExtent, Fitted, Moved, Writable, Puts, TopAsked, TopPut};
+use code::numbers::LONGEST_STATE;
+use code::numbers::LONGEST_TERM;
+use code::numbers::MOST_ABSTRACTORS;
+use frames::Work;
 use indices::larger;
 use indices::lift_above;
 use indices::lift_in_place;
 
+// Seven numbers for each waiting applicator; no term has more than 4,096.
+pub const QUEUE_LENGTH: usize = 7 * LONGEST_TERM;
+
+pub type Queue = [u16; QUEUE_LENGTH];
+
 // The size and the scope of what waits.
-pub struct Figures {
+pub struct Extent {
     pub size: usize,
     pub scope: usize,
 }
@@ -34,7 +43,7 @@ pub fn wide16(x: u16) -> usize
 }
 
 // ---- Waiting applicators.
-pub fn slot_at(q: &[u16; 28672], j: usize) -> Slot
+pub fn slot_at(q: &Queue, j: usize) -> Slot
     requires { ⌜ j < 4096 ⌝ }
     ensures { λ r. ⌜ (r ≡ slotOf (now (q .entry)) j) × SmallSlot r ⌝ }
 {
@@ -49,7 +58,7 @@ pub fn slot_at(q: &[u16; 28672], j: usize) -> Slot
     }
 }
 
-pub fn note(q: &mut [u16; 28672], j: usize, v: Slot)
+pub fn store_slot(q: &mut Queue, j: usize, v: Slot)
     requires { ⌜ (j < 4096) × (length (now q) ≡ queueLength) × SmallSlot v ⌝ }
     ensures { λ r. ⌜ Noted (now (q .entry)) (now (q .exit)) j v ⌝ }
 {
@@ -62,15 +71,15 @@ pub fn note(q: &mut [u16; 28672], j: usize, v: Slot)
     q[7 * j + 6] = v.cut as u16;
 }
 
-pub fn figures_of(q: &[u16; 28672], base: usize, top: usize) -> Figures
+pub fn waiting_extent(q: &Queue, base: usize, top: usize) -> Extent
     requires { ⌜ (base ≤ top) × (top ≤ 4096) ⌝ }
-    ensures { λ r. ⌜ Figured (now (q .entry)) base top r ⌝ }
+    ensures { λ r. ⌜ WaitingExtent (now (q .entry)) base top r ⌝ }
 {
     if top == base {
-        return Figures { size: 0, scope: 0 };
+        return Extent { size: 0, scope: 0 };
     }
     let v = slot_at(q, top - 1);
-    Figures {
+    Extent {
         size: v.size,
         scope: v.scope,
     }
@@ -78,8 +87,8 @@ pub fn figures_of(q: &[u16; 28672], base: usize, top: usize) -> Figures
 
 // Whether a state is within the limits: its frame's bytes end at `end`, B has `size` bytes, and its scope is `scope`.
 pub fn fits(
-    ws: &[u16; 28672],
-    ys: &[u16; 28672],
+    ws: &Queue,
+    ys: &Queue,
     base: usize,
     top: usize,
     ytop: usize,
@@ -91,16 +100,16 @@ pub fn fits(
     requires { ⌜ (base ≤ top) × (top ≤ 4096) × (ytop ≤ 4096) × (end < 65536) × (depth < 65536) × (size < 65536) × (scope < 65536) ⌝ }
     ensures { λ r. ⌜ Fitted (now (ws .entry)) (now (ys .entry)) base top ytop end depth size scope r ⌝ }
 {
-    let w = figures_of(ws, base, top);
-    let y = figures_of(ys, 0, ytop);
-    if end + (w.size + (y.size + size)) > 8192 {
+    let w = waiting_extent(ws, base, top);
+    let y = waiting_extent(ys, 0, ytop);
+    if end + (w.size + (y.size + size)) > LONGEST_STATE {
         return false;
     }
-    depth + larger(w.scope, larger(y.scope, scope)) <= 253
+    depth + larger(w.scope, larger(y.scope, scope)) <= MOST_ABSTRACTORS
 }
 
 // ---- Bytes.
-fn copy_from(t: &[u8], p: usize, n: usize, work: &mut [u8; 8192], to: usize)
+fn copy_from(t: &[u8], p: usize, n: usize, work: &mut Work, to: usize)
     requires { ⌜ (p + n ≤ length (now t)) × (to + n ≤ longestState) × (length (now work) ≡ longestState) ⌝ }
     ensures { λ r. ⌜ Moved (now (t .entry)) (now (work .entry)) (now (work .exit)) p n to ⌝ }
 {
@@ -111,7 +120,7 @@ fn copy_from(t: &[u8], p: usize, n: usize, work: &mut [u8; 8192], to: usize)
     }
 }
 
-fn copy_in(work: &mut [u8; 8192], p: usize, n: usize, to: usize)
+fn copy_in(work: &mut Work, p: usize, n: usize, to: usize)
     requires { ⌜ (p + n ≤ to) × (to + n ≤ longestState) × (length (now work) ≡ longestState) ⌝ }
     ensures { λ r. ⌜ Moved (now (work .entry)) (now (work .entry)) (now (work .exit)) p n to ⌝ }
 {
@@ -123,9 +132,9 @@ fn copy_in(work: &mut [u8; 8192], p: usize, n: usize, to: usize)
 }
 
 // The mark, and the term of t from p up to e, lifted by n above c and then by m.
-pub fn put_own(
+pub fn write_from_text(
     t: &[u8],
-    work: &mut [u8; 8192],
+    work: &mut Work,
     mark: u8,
     p: usize,
     e: usize,
@@ -147,8 +156,8 @@ pub fn put_own(
 }
 
 // The mark, and the term of work from p up to e, lifted by n above c and then by m.
-pub fn put_seen(
-    work: &mut [u8; 8192],
+pub fn write_from_work(
+    work: &mut Work,
     mark: u8,
     p: usize,
     e: usize,
@@ -170,10 +179,10 @@ pub fn put_seen(
 }
 
 // ⟨K⟩ of the last of W, as it stands after d abstractors.
-pub fn put_wait(
+pub fn write_last_of_w(
     t: &[u8],
-    work: &mut [u8; 8192],
-    ws: &[u16; 28672],
+    work: &mut Work,
+    ws: &Queue,
     base: usize,
     top: usize,
     d: usize,
@@ -184,7 +193,7 @@ pub fn put_wait(
 {
     let v = slot_at(ws, top - 1);
     let passed = d - v.depth;
-    put_own(
+    write_from_text(
         t,
         work,
         0xfe,
@@ -198,9 +207,9 @@ pub fn put_wait(
 }
 
 // ⟨K⟩ of the last of Y, likewise.
-pub fn put_yet(
-    work: &mut [u8; 8192],
-    ys: &[u16; 28672],
+pub fn write_last_of_y(
+    work: &mut Work,
+    ys: &Queue,
     top: usize,
     d: usize,
     to: usize,
@@ -210,7 +219,7 @@ pub fn put_yet(
     ensures { λ r. ⌜ TopPut (now (work .entry)) (now (ys .entry)) (now (work .entry)) (now (work .exit)) d limit 0 top to r ⌝ }
 {
     let v = slot_at(ys, top - 1);
-    put_seen(
+    write_from_work(
         work,
         0xfe,
         v.place + 1,

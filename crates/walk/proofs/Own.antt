@@ -22,17 +22,17 @@ use Rattle.frames.proofs.Entries.{agree-refl, agree-part, agree-trans, stands-a
 use Rattle.frames.proofs.Laws.{stored-depth, stored-push, stored-agree}
 use Rattle.verdict.specs.Bounds.{waitingSize, waitingScope}
 use Rattle.verdict.specs.Verdict.{Progress, Run, passed, stopped, andThen}
-use Rattle.recursion.specs.Recursion.{Waiting, terms, liftWaiting, compareNext, ownFrom}
-use Rattle.waiting.specs.Waiting.{Part, queueLength, slotOf, Waits, Queue, queue-none, queue-one, SmallSlot, Noted, Figured, Written, Writable, Puts, TopAsked, TopPut}
+use Rattle.recursion.specs.Recursion.{Waiting, termsOf, liftWaiting, compareNext, ownFrom}
+use Rattle.waiting.specs.Waiting.{Part, queueLength, slotOf, Waits, Queue, queue-none, queue-one, SmallSlot, Noted, WaitingExtent, WrittenTerm, Writable, Puts, TopAsked, TopPut}
 use Rattle.copies.specs.State.{Sound, sound-single, sound-pair, Reached, Says, says-stopped, Room}
 use Rattle.walk.specs.State.{OwnAt, Sized}
 use Rattle.walk.specs.Contracts.{afterInner, OwnReady, InnerEnd, AbsHere, Continues, pass-stops, pass-goes, Passes}
 use Rattle.copies.specs.declared.Walked.{Walked}
 use Rattle.waiting.specs.declared.Slot.{Slot}
-use Rattle.waiting.specs.declared.Figures.{Figures}
+use Rattle.waiting.specs.declared.Extent.{Extent}
 use Rattle.compare.specs.declared.Compared.{Compared}
 use Rattle.compare.specs.Compares.{Comparing, CompareSays, compare-passed, compare-stopped, Compares}
-use Rattle.walk.specs.declared.Passing.{Passing}
+use Rattle.walk.specs.declared.Advance.{Advance}
 use Rattle.waiting.proofs.Texts.{positive, Two, text-app, text-abs, Inner, text-inner}
 use Rattle.waiting.proofs.Queues.{queue-empty, queue-base, Last, queue-last, queue-deeper, queue-keep, now-part}
 use Rattle.copies.proofs.Copy.{sound-closed}
@@ -84,7 +84,7 @@ unlifted K = lift-zero 0 (lift 0 0 K) ∙ lift-zero 0 K
 coded-at : {K L : Term} → K ≡ L → Coded L → Coded K
 coded-at e c = rw e c
 
-written-at : {mark : ℕ} {w w′ : List ℕ} {to e : ℕ} {K L : Term} → K ≡ L → Written mark w w′ to e K → Written mark w w′ to e L
+written-at : {mark : ℕ} {w w′ : List ℕ} {to e : ℕ} {K L : Term} → K ≡ L → WrittenTerm mark w w′ to e K → WrittenTerm mark w w′ to e L
 written-at e c = rw (← e) c
 
 waits-at : {s : List ℕ} {d limit : ℕ} {v v′ : Slot} {w : Waiting} {W : List Waiting} → v ≡ v′ → Waits s d limit v′ w W → Waits s d limit v w W
@@ -115,8 +115,8 @@ module _ {file t w ws ys scopes : List ℕ} {base top at : ℕ} {f : FrameRecord
       pub app-bounds : (at + 1 < m) × (m < 4096)
       app-bounds = (stands-start app-first, omega (arith, stands-start app-second, stands-end app-second, z .short))
 
-      module _ (o : Room (f .len) (f .end) W [] B) {y : Figures} (g : Figured ws base top y) where
-        total : y .size + (m - at) ≡ suc (size (two-app .one)) + waitingSize (terms W)
+      module _ (o : Room (f .len) (f .end) W [] B) {y : Extent} (g : WaitingExtent ws base top y) where
+        total : y .size + (m - at) ≡ suc (size (two-app .one)) + waitingSize (termsOf W)
         total = omega (arith, g .size-is t (f .len) (length t) W (z .waits), app-first .place)
 
         pub app-small : {a b : ℕ} → a ≡ getD scopes (at + 1) 0 → b ≡ max a (y .scope) → SmallSlot (record { size = y .size + (m - at); scope = b; depth = f .len; place = at; end = m; shift = 0; cut = 0 })
@@ -133,7 +133,7 @@ module _ {file t w ws ys scopes : List ℕ} {base top at : ℕ} {f : FrameRecord
         pub app-passes : {a b : ℕ} {ws′ : List ℕ} (out : Walked) → out .number ≡ 0 → out .next ≡ next → out .comparisons ≡ count → a ≡ getD scopes (at + 1) 0 → b ≡ max a (y .scope)
             → Noted ws ws′ top (record { size = y .size + (m - at); scope = b; depth = f .len; place = at; end = m; shift = 0; cut = 0 })
             → Continues file t w ws′ ys base (record { out = out; frame = f; top = top + 1; at = m }) (afterInner at R W B p)
-        unfolding terms waitingSize waitingScope
+        unfolding termsOf waitingSize waitingScope
         app-passes {a} {b} {ws′} out k k₁ k₂ d e v = pass-goes {W = record { place = at; term = two-app .one } ∷ W} {p = p} k (record {
           stored = z .stored;
           sound = z .sound;
@@ -196,7 +196,7 @@ module _ {file t w ws ys scopes : List ℕ} {base top at : ℕ} {f : FrameRecord
         room = r;
       }
 
-      pub domain-written : {w₁ w₂ : List ℕ} {a b : ℕ} → Puts 0xff t w₁ w₂ (at + 1) m 0 0 0 a b → Written 0xff w₁ w₂ a b (two-abs .one)
+      pub domain-written : {w₁ w₂ : List ℕ} {a b : ℕ} → Puts 0xff t w₁ w₂ (at + 1) m 0 0 0 a b → WrittenTerm 0xff w₁ w₂ a b (two-abs .one)
       domain-written u = written-at (unlifted (two-abs .one)) (u .all (two-abs .one) abs-first)
 
       entered : (e : Entry) {w₂ : List ℕ} {b : ℕ} → Sound (R ▹ e) → length w₂ ≡ longestState → Agree w w₂ 0 (f .end) → EntryBytes w₂ (f .end) e b
@@ -221,7 +221,7 @@ module _ {file t w ws ys scopes : List ℕ} {base top at : ℕ} {f : FrameRecord
         pub alone-fits : f .end + suc (size (two-abs .one)) ≤ longestState
         alone-fits = omega (arith, o .fits, abs-size (two-abs .is) .0)
 
-        pub alone-passes : {w₂ : List ℕ} {b : ℕ} (out : Walked) → out .number ≡ 0 → out .next ≡ next → out .comparisons ≡ count → top ≡ base → Written 0xff w w₂ (f .end) b (two-abs .one)
+        pub alone-passes : {w₂ : List ℕ} {b : ℕ} (out : Walked) → out .number ≡ 0 → out .next ≡ next → out .comparisons ≡ count → top ≡ base → WrittenTerm 0xff w w₂ (f .end) b (two-abs .one)
             → Continues file t w₂ ws ys base (record { out = out; frame = pushed f b; top = top; at = m }) (afterInner at R W B p)
         alone-passes out k k₁ k₂ e u =
             let a : W ≡ [] = queue-empty (z .waits) e in
@@ -236,14 +236,14 @@ module _ {file t w ws ys scopes : List ℕ} {base top at : ℕ} {f : FrameRecord
           wait-above = omega (arith, own-base, e)
 
           wait-fits : (f .end + (suc (size (last-wait .last .term)) + suc (size (two-abs .one))) ≤ longestState) × (f .len + scope (last-wait .last .term) ≤ mostAbstractors)
-          unfolding waitingSize waitingScope terms
-          wait-fits = let i = last-wait .is in (omega (arith, o .fits, abs-size (two-abs .is) .0, ap (λ l. waitingSize (terms l)) i), omega (arith, o .waits-fit, ap (λ l. waitingScope (terms l)) i))
+          unfolding waitingSize waitingScope termsOf
+          wait-fits = let i = last-wait .is in (omega (arith, o .fits, abs-size (two-abs .is) .0, ap (λ l. waitingSize (termsOf l)) i), omega (arith, o .waits-fit, ap (λ l. waitingScope (termsOf l)) i))
 
           pub wait-asked : TopAsked t ws w (f .len) (length t) base top (f .end)
           wait-asked = record { work = z .stored .work; last = last-wait .last; others = last-wait .others; queue = rw (last-wait .is) at (z .waits); room = omega (arith, wait-fits .0); shallow = wait-fits .1; few = omega (arith, z .tops, own-bound) }
 
           module _ {w₁ : List ℕ} {a : ℕ} (k : TopPut t ws w w₁ (f .len) (length t) base top (f .end) a) where
-            wait-written : Written 0xfe w w₁ (f .end) a (last-wait .last .term)
+            wait-written : WrittenTerm 0xfe w w₁ (f .end) a (last-wait .last .term)
             wait-written = k .all (last-wait .last) (last-wait .others) (rw (last-wait .is) at (z .waits))
 
             pub wait-past : (a ≡ f .end + suc (size (last-wait .last .term))) × (a + suc (size (two-abs .one)) ≤ longestState)
@@ -253,7 +253,7 @@ module _ {file t w ws ys scopes : List ℕ} {base top at : ℕ} {f : FrameRecord
             wait-domain = domain-writable (wait-written .work) (wait-past .1)
 
             module _ {w₂ : List ℕ} {b : ℕ} (v : Puts 0xff t w₁ w₂ (at + 1) m 0 0 0 a b) where
-              pub wait-whole : Written 0xff w₁ w₂ a b (two-abs .one)
+              pub wait-whole : WrittenTerm 0xff w₁ w₂ a b (two-abs .one)
               wait-whole = domain-written v
 
               pub wait-below : Agree w w₂ 0 (f .end)
@@ -289,7 +289,7 @@ module _ {file t w ws ys scopes : List ℕ} {base top at : ℕ} {f : FrameRecord
                 rule-is : afterInner at R W B p ≡ andThen (compareNext R (last-wait .last) (two-abs .one) p) (ownFrom m (R ▹ pair (last-wait .last .term) (two-abs .one)) (liftWaiting (last-wait .others)) (two-abs .two))
                 rule-is = after-pair at R W B (two-abs .one) (two-abs .two) p (abs-first .place) (two-abs .is) (last-wait .last) (last-wait .others) (last-wait .is)
 
-                continues-at : {w₃ : List ℕ} {s : Passing} {x y : Run} → x ≡ y → Continues file t w₃ ws ys base s y → Continues file t w₃ ws ys base s x
+                continues-at : {w₃ : List ℕ} {s : Advance} {x y : Run} → x ≡ y → Continues file t w₃ ws ys base s y → Continues file t w₃ ws ys base s x
                 continues-at i j = rw i j
 
                 pub pair-stops : {u : Slot} → (c .number ≡ 0 → ⊥) → u ≡ slotOf ws (top - 1)
@@ -317,7 +317,7 @@ module _ {file t w ws ys scopes : List ℕ} {base top at : ℕ} {f : FrameRecord
 
   -- ---- The contracts.
   module _ (g : OwnReady file t w ws ys base top at f next count) where
-    pub app-ruled : (h : getD t at 0 ≡ 0xfe) {y : Figures} → Figured ws base top y → {a b : ℕ} {ws′ : List ℕ} (out : Walked) → out .number ≡ 0 → out .next ≡ next → out .comparisons ≡ count → a ≡ getD scopes (at + 1) 0 → b ≡ max a (y .scope)
+    pub app-ruled : (h : getD t at 0 ≡ 0xfe) {y : Extent} → WaitingExtent ws base top y → {a b : ℕ} {ws′ : List ℕ} (out : Walked) → out .number ≡ 0 → out .next ≡ next → out .comparisons ≡ count → a ≡ getD scopes (at + 1) 0 → b ≡ max a (y .scope)
         → Noted ws ws′ top (record { size = y .size + (m - at); scope = b; depth = f .len; place = at; end = m; shift = 0; cut = 0 })
         → Passes file t w w ws ws′ ys base top at f next count (record { out = out; frame = f; top = top + 1; at = m })
     app-ruled h v out k k₁ k₂ d e u = record {
@@ -346,7 +346,7 @@ module _ {file t w ws ys scopes : List ℕ} {base top at : ℕ} {f : FrameRecord
           }
 
       module _ (e : top ≡ base → ⊥) {w₁ w₂ : List ℕ} {a b : ℕ} (k : TopPut t ws w w₁ (f .len) (length t) base top (f .end) a) (v : Puts 0xff t w₁ w₂ (at + 1) m 0 0 0 a b) {c : Compared} (r : Compares file w₂ next f a b c) where
-        whole : Written 0xff w₁ w₂ a b (two-abs (g .here) h .one)
+        whole : WrittenTerm 0xff w₁ w₂ a b (two-abs (g .here) h .one)
         whole = wait-whole (g .here) h (g .room) e k v
 
         pub stop-ruled : {u : Slot} → (c .number ≡ 0 → ⊥) → u ≡ slotOf ws (top - 1)

@@ -24,11 +24,11 @@ use Rattle.frames.specs.declared.FrameRecord.{FrameRecord}
 use Rattle.frames.specs.declared.Span.{Span}
 use Rattle.frames.proofs.Entries.{agree-refl, agree-part, agree-trans}
 use Rattle.frames.proofs.Laws.{stored-depth, stored-agree, span-domain}
-use Rattle.indices.specs.Passes.{Standing as Measurable}
+use Rattle.indices.specs.Passes.{ShortTerm as Measurable}
 use Rattle.indices.proofs.Walk.{scope-size}
 use Rattle.verdict.specs.Bounds.{waitingSize, waitingScope, stateSize, stateScope, stateFits}
 use Rattle.verdict.specs.Verdict.{number, placeOf, something-waits, state-outgrown, Progress, Run, passed, stopped, andThen, turned}
-use Rattle.recursion.specs.Recursion.{Waiting, terms, liftWaiting, compareNext, tested, atTau, atVar, copiedRule, copiedFrom, enough, ownFrom}
+use Rattle.recursion.specs.Recursion.{Waiting, termsOf, liftWaiting, compareNext, tested, atTau, atVar, copiedRule, copiedFrom, enough, ownFrom}
 use Rattle.waiting.specs.Waiting.{Part, queueLength, slotOf, Queue, queue-none, within, Fitted}
 use Rattle.copies.specs.State.{Sound, Reached, Says, says-passed, says-stopped, says-never, copiedNow, Known, exact, fitting, ScopeKnown, CopyAt, Room}
 use Rattle.walk.specs.State.{Sized, OwnAt}
@@ -37,7 +37,7 @@ use Rattle.walk.specs.Contracts.{afterInner, OwnStated, OwnReady, Contin
 use Rattle.copies.specs.declared.Walked.{Walked}
 use Rattle.waiting.specs.declared.Slot.{Slot}
 use Rattle.copies.specs.declared.Copying.{Copying}
-use Rattle.walk.specs.declared.Passing.{Passing}
+use Rattle.walk.specs.declared.Advance.{Advance}
 use Rattle.waiting.proofs.Texts.{positive, text-tau, Variable, text-var, Two, text-app, text-abs, text-in, Inner, text-inner}
 use Rattle.waiting.proofs.Queues.{queue-empty, queue-base, Last, queue-last, queue-keep}
 use Rattle.copies.proofs.Runs.{same-tested, copied-step, copied-fits, own-fits, room, reached-turned, tested-true, tested-false}
@@ -51,13 +51,13 @@ then-then (stopped h q) f g = refl
 
 -- with K inside
 own-app : (at : ℕ) (R : Frame) (W : List Waiting) (B K X : Term) (p : Progress) → B ≡ app K X
-    → ownFrom at R W B p ≡ tested (stateFits (own R (terms W) B)) at (λ q. andThen (ownFrom (suc at) R [] K q) (afterInner at R W B)) p
+    → ownFrom at R W B p ≡ tested (stateFits (own R (termsOf W) B)) at (λ q. andThen (ownFrom (suc at) R [] K q) (afterInner at R W B)) p
 unfolding ownFrom afterInner
 own-app at R W B K X p e = rw e
 
 own-abs : (at : ℕ) (R : Frame) (W : List Waiting) (B K X : Term) (p : Progress) → B ≡ abs K X
-    → ownFrom at R W B p ≡ tested (stateFits (own R (terms W) B)) at (λ q. andThen (ownFrom (suc at) R [] K q) (afterInner at R W B)) p
-unfolding ownFrom afterInner terms
+    → ownFrom at R W B p ≡ tested (stateFits (own R (termsOf W) B)) at (λ q. andThen (ownFrom (suc at) R [] K q) (afterInner at R W B)) p
+unfolding ownFrom afterInner termsOf
 own-abs at R [] B K X p e = rw e
 own-abs at R (w ∷ W) B K X p e = rw e (same-tested _ at _ _ p (λ t. then-then (ownFrom (suc at) R [] K (turned 1 p)) (compareNext R w K) _))
 
@@ -69,7 +69,7 @@ record Inside (t : List ℕ) (at e : ℕ) (R : Frame) (W : List Waiting) (B : Te
   before : mid < e
   closed : (d : ℕ) → Closed d B → Closed d inner
   smaller : scope inner ≤ scope B
-  rule : (p : Progress) → ownFrom at R W B p ≡ tested (stateFits (own R (terms W) B)) at (λ q. andThen (ownFrom (suc at) R [] inner q) (afterInner at R W B)) p
+  rule : (p : Progress) → ownFrom at R W B p ≡ tested (stateFits (own R (termsOf W) B)) at (λ q. andThen (ownFrom (suc at) R [] inner q) (afterInner at R W B)) p
 
 inside : {t : List ℕ} {at e : ℕ} (R : Frame) (W : List Waiting) {B : Term} → Stands t at e B → 0xfe ≤ getD t at 0 → Inside t at e R W B
 unfolding scope
@@ -92,10 +92,10 @@ inside {t} {at} {e} R W {B} h k = go (cmp (getD t at 0) 0xfe)
     go (hi a) = let d = text-abs h k (λ o. omega arith) in record { inner = d .one; mid = d .mid; stands = d .first; before = stands-start (d .second); closed = λ n c. abs-inner (d .is) c; smaller = omega (arith, ap scope (d .is)); rule = λ p. own-abs at R W B (d .one) (d .two) p (d .is) }
 
 -- the test of a state that has room
-room-fits : {d end : ℕ} {W : List Waiting} {B : Term} → Room d end W [] B → within (end + (waitingSize (terms W) + (waitingSize (terms []) + size B))) (d + max (waitingScope (terms W)) (max (waitingScope (terms [])) 0)) ≡ true
-room-fits {d} {end} {W} {B} o = rw (le-leb (end + (waitingSize (terms W) + (waitingSize (terms []) + size B))) longestState (o .fits), le-leb (d + max (waitingScope (terms W)) (max (waitingScope (terms [])) 0)) mostAbstractors (omega (arith, o .waits-fit, o .copied-fit)))
+room-fits : {d end : ℕ} {W : List Waiting} {B : Term} → Room d end W [] B → within (end + (waitingSize (termsOf W) + (waitingSize (termsOf []) + size B))) (d + max (waitingScope (termsOf W)) (max (waitingScope (termsOf [])) 0)) ≡ true
+room-fits {d} {end} {W} {B} o = rw (le-leb (end + (waitingSize (termsOf W) + (waitingSize (termsOf []) + size B))) longestState (o .fits), le-leb (d + max (waitingScope (termsOf W)) (max (waitingScope (termsOf [])) 0)) mostAbstractors (omega (arith, o .waits-fit, o .copied-fit)))
 
-typed-rule : (at : ℕ) (R : Frame) (W : List Waiting) (k : ℕ) (e : Entry) (p : Progress) → entryAt R k ≡ some e → stateFits (copied R (terms W) [] (var k)) ≡ true
+typed-rule : (at : ℕ) (R : Frame) (W : List Waiting) (k : ℕ) (e : Entry) (p : Progress) → entryAt R k ≡ some e → stateFits (copied R (termsOf W) [] (var k)) ≡ true
     → copiedFrom (enough R (var k)) at R W [] (var k) p ≡ copiedNow at R W [] (lift k 0 (domain e)) (turned 1 p)
 unfolding copiedNow copiedRule atVar
 typed-rule at R W k e p h v = now-is at R W k p ∙ copied-step at R W [] (var k) p ∙ tested-true _ at _ p v ∙ var-goes at R W k e p h
@@ -107,14 +107,14 @@ typed-rule at R W k e p h v = now-is at R W k p ∙ copied-step at R W [] (var k
     var-goes at R W k e p h = rw h
 
 -- (vii) and (viii)
-var-rule : (at : ℕ) (R : Frame) (W : List Waiting) (B : Term) (p : Progress) (k : ℕ) (e : Entry) → B ≡ var k → entryAt R k ≡ some e → stateFits (own R (terms W) B) ≡ true → stateFits (copied R (terms W) (terms []) B) ≡ true
+var-rule : (at : ℕ) (R : Frame) (W : List Waiting) (B : Term) (p : Progress) (k : ℕ) (e : Entry) → B ≡ var k → entryAt R k ≡ some e → stateFits (own R (termsOf W) B) ≡ true → stateFits (copied R (termsOf W) (termsOf []) B) ≡ true
     → ownFrom at R W B p ≡ copiedNow at R W [] (lift k 0 (domain e)) (turned 1 (turned 1 p))
-unfolding ownFrom terms
+unfolding ownFrom termsOf
 var-rule at R W B p k e i h u v =
-    ap (λ b. ownFrom at R W b p) i ∙ tested-true _ at _ p (ap (λ b. stateFits (own R (terms W) b)) (sym i) ∙ u) ∙ typed-rule at R W k e (turned 1 p) h (ap (λ b. stateFits (copied R (terms W) [] b)) (sym i) ∙ v)
+    ap (λ b. ownFrom at R W b p) i ∙ tested-true _ at _ p (ap (λ b. stateFits (own R (termsOf W) b)) (sym i) ∙ u) ∙ typed-rule at R W k e (turned 1 p) h (ap (λ b. stateFits (copied R (termsOf W) [] b)) (sym i) ∙ v)
 
 -- ---- A state.
-continues-at : {file t w ws ys : List ℕ} {base : ℕ} {r : Passing} {x y : Run} → x ≡ y → Continues file t w ws ys base r y → Continues file t w ws ys base r x
+continues-at : {file t w ws ys : List ℕ} {base : ℕ} {r : Advance} {x y : Run} → x ≡ y → Continues file t w ws ys base r y → Continues file t w ws ys base r x
 continues-at e h = rw e h
 
 says-at : {file : List ℕ} {r : Walked} {x y : Run} → x ≡ y → Says file r y → Says file r x
@@ -134,10 +134,10 @@ module _ {file t w ws ys : List ℕ} {base top at : ℕ} {f : FrameRecord} {next
   -- the test
   module _ {size₀ : ℕ} {ok : Bool} (h : Fitted ws ys base top 0 (f .end) (f .len) size₀ 0 ok) (m : (R : Frame) (W : List Waiting) (B : Term) (p : Progress) → OwnAt file t w ws ys base top at f next count R W B p → size₀ ≡ size B) where
     test-is : (R : Frame) (W : List Waiting) (B : Term) (p : Progress) → OwnAt file t w ws ys base top at f next count R W B p
-        → within (f .end + (waitingSize (terms W) + (waitingSize (terms []) + size B))) (f .len + max (waitingScope (terms W)) (max (waitingScope (terms [])) 0)) ≡ ok
-    test-is R W B p z = ap (λ n. within (f .end + (waitingSize (terms W) + (waitingSize (terms []) + n))) (f .len + max (waitingScope (terms W)) (max (waitingScope (terms [])) 0))) (sym (m R W B p z)) ∙ sym (h .is t w (f .len) (f .len) (length t) (f .end) W [] (z .waits) (queue-none refl))
+        → within (f .end + (waitingSize (termsOf W) + (waitingSize (termsOf []) + size B))) (f .len + max (waitingScope (termsOf W)) (max (waitingScope (termsOf [])) 0)) ≡ ok
+    test-is R W B p z = ap (λ n. within (f .end + (waitingSize (termsOf W) + (waitingSize (termsOf []) + n))) (f .len + max (waitingScope (termsOf W)) (max (waitingScope (termsOf [])) 0))) (sym (m R W B p z)) ∙ sym (h .is t w (f .len) (f .len) (length t) (f .end) W [] (z .waits) (queue-none refl))
 
-    fits-is : (R : Frame) (W : List Waiting) (B : Term) (p : Progress) → OwnAt file t w ws ys base top at f next count R W B p → stateFits (own R (terms W) B) ≡ ok
+    fits-is : (R : Frame) (W : List Waiting) (B : Term) (p : Progress) → OwnAt file t w ws ys base top at f next count R W B p → stateFits (own R (termsOf W) B) ≡ ok
     fits-is R W B p z = own-fits (z .stored) (z .sound) W B (z .shallow) ∙ test-is R W B p z
 
     has-room : (R : Frame) (W : List Waiting) (B : Term) (p : Progress) → OwnAt file t w ws ys base top at f next count R W B p → ok ≡ true → Room (f .len) (f .end) W [] B
@@ -147,7 +147,7 @@ module _ {file t w ws ys : List ℕ} {base top at : ℕ} {f : FrameRecord} {next
     own-ready e g = record { frame = g .frame; ww = g .ww; body = g .body; progress = g .progress; here = g .here; room = has-room (g .frame) (g .ww) (g .body) (g .progress) (g .here) e }
 
     outgrown-run : ok ≡ false → (R : Frame) (W : List Waiting) (B : Term) (p : Progress) → OwnAt file t w ws ys base top at f next count R W B p → ownFrom at R W B p ≡ stopped (state-outgrown at) (turned 1 p)
-    unfolding ownFrom terms
+    unfolding ownFrom termsOf
     outgrown-run e R W tau p z = tested-false _ at _ p (fits-is R W tau p z ∙ e)
     outgrown-run e R W (var k) p z = tested-false _ at _ p (fits-is R W (var k) p z ∙ e)
     outgrown-run e R W (app K B) p z = tested-false _ at _ p (fits-is R W (app K B) p z ∙ e)
@@ -167,7 +167,7 @@ module _ {file t w ws ys : List ℕ} {base top at : ℕ} {f : FrameRecord} {next
   -- τ
   module _ (h : getD t at 0 ≡ 0) (g : OwnReady file t w ws ys base top at f next count) where
     tau-run : {r : Walked} → ((R : Frame) (W : List Waiting) (p : Progress) → Queue t ws (f .len) (length t) base top W → Reached file next count (turned 1 p) → Says file r (atTau W (turned 1 p)))
-        → ((R : Frame) (W : List Waiting) (B : Term) (p : Progress) → OwnAt file t w ws ys base top at f next count R W B p → stateFits (own R (terms W) B) ≡ true)
+        → ((R : Frame) (W : List Waiting) (B : Term) (p : Progress) → OwnAt file t w ws ys base top at f next count R W B p → stateFits (own R (termsOf W) B) ≡ true)
         → Checks file t w w ws ws ys ys base top at f next count r
     unfolding ownFrom
     tau-run {r} a fit = record { work = g .here .stored .work; below = agree-refl; wbelow = agree-refl; wlong = g .here .wlong; ylong = g .here .ylong; all = go }
@@ -175,8 +175,8 @@ module _ {file t w ws ys : List ℕ} {base top at : ℕ} {f : FrameRecord} {next
         go : (R : Frame) (W : List Waiting) (B : Term) (p : Progress) → OwnAt file t w ws ys base top at f next count R W B p → Says file r (ownFrom at R W B p)
         go R W B p z = tau-says B (text-tau (z .stands) h) (fit R W B p z)
           where
-            tau-says : (B : Term) → B ≡ tau → stateFits (own R (terms W) B) ≡ true → Says file r (ownFrom at R W B p)
-            tau-says B e v = says-at (ap (λ b. ownFrom at R W b p) e ∙ tested-true _ at _ p (ap (λ b. stateFits (own R (terms W) b)) (sym e) ∙ v)) (a R W p (z .waits) (reached-turned 1 (z .reached)))
+            tau-says : (B : Term) → B ≡ tau → stateFits (own R (termsOf W) B) ≡ true → Says file r (ownFrom at R W B p)
+            tau-says B e v = says-at (ap (λ b. ownFrom at R W b p) e ∙ tested-true _ at _ p (ap (λ b. stateFits (own R (termsOf W) b)) (sym e) ∙ v)) (a R W p (z .waits) (reached-turned 1 (z .reached)))
 
     module _ {ok : Bool} (m : Fitted ws ys base top 0 (f .end) (f .len) 1 0 ok) (e : ok ≡ true) (sz : (R : Frame) (W : List Waiting) (B : Term) (p : Progress) → OwnAt file t w ws ys base top at f next count R W B p → 1 ≡ size B) where
       pub tau-passes : top ≡ base → Checks file t w w ws ws ys ys base top at f next count (record { number = 0; place = 0; comparisons = count; next = next })
@@ -251,7 +251,7 @@ module _ {file t w ws ys : List ℕ} {base top at : ℕ} {f : FrameRecord} {next
     pub var-ends : {w′ ys′ : List ℕ} {r : Walked} {q : Span} (l : Looked w f k q) {n : ℕ} → ScopeKnown w (q .domain) (q .end) (f .len) n
         → Copies file t w w′ ws ys ys′ base at (record { top = top; ytop = 0; from = q .domain; to = q .end; shift = k; cut = 0; scope = n; next = next; comparisons = count }) f r
         → Ends file t w w′ ws ys ys′ base top at f next count r
-    unfolding terms
+    unfolding termsOf
     var-ends l m c = record { work = c .work; below = c .below; ylong = c .ylong; all = λ R W B p z o. says-at (var-run z l o) (c .all R W [] _ _ (begun z l m)) }
 
   -- ---- The end of the text.
@@ -362,7 +362,7 @@ module _ {file t w ws ys : List ℕ} {base top at : ℕ} {f : FrameRecord} {next
         pub pass-ready : OwnStated file t w ws ys base top at f next count → OwnReady file t w₁ ws₁ ys₁ base top at f (r .next) (r .comparisons)
         pass-ready g = let l = left-over (g .frame) (g .ww) (g .body) (g .progress) (g .here) in record { frame = g .frame; ww = g .ww; body = g .body; progress = l .progress; here = l .left; room = has-room m sz (g .frame) (g .ww) (g .body) (g .progress) (g .here) e }
 
-        module _ {w₂ ws₂ : List ℕ} {q : Passing} (d : Passes file t w₁ w₂ ws₁ ws₂ ys₁ base top at f (r .next) (r .comparisons) q) (g : OwnStated file t w ws ys base top at f next count) where
+        module _ {w₂ ws₂ : List ℕ} {q : Advance} (d : Passes file t w₁ w₂ ws₁ ws₂ ys₁ base top at f (r .next) (r .comparisons) q) (g : OwnStated file t w ws ys base top at f next count) where
           continued : (R : Frame) (W : List Waiting) (B : Term) (p : Progress) → OwnAt file t w ws ys base top at f next count R W B p → Continues file t w₂ ws₂ ys₁ base q (ownFrom at R W B p)
           continued R W B p z = let l = left-over R W B p z in continues-at (l .same) (d .all R W B (l .progress) (l .left) (has-room m sz R W B p z e))
 

@@ -30,9 +30,9 @@ use Rattle.recursion.proofs.Same.{recurring}
 use Rattle.copies.specs.State.{Sound, sound-empty, Reached, Says, says-passed, says-stopped, says-never}
 use Rattle.waiting.specs.Waiting.{queueLength, Queue, queue-none}
 use Rattle.walk.specs.State.{Sized, OwnAt}
-use Rattle.walk.specs.Contracts.{OwnStated, Checks, SizedFrom, TermAt, FigureAt, WholeTerm, Walkable, Answers, answer-passed, answer-stopped, WalkAnswer}
+use Rattle.walk.specs.Contracts.{OwnStated, Checks, SizedFrom, TermAt, ExtentAt, WholeTerm, Walkable, Answers, answer-passed, answer-stopped, WalkAnswer}
 use Rattle.copies.specs.declared.Walked.{Walked}
-use Rattle.waiting.specs.declared.Figures.{Figures}
+use Rattle.waiting.specs.declared.Extent.{Extent}
 
 -- ---- A term starts at every byte of a term.
 record Part (t : List ℕ) (i : ℕ) : Type 0 where
@@ -76,11 +76,11 @@ every (abs K B) {p} {e} h i a b = let d = abs-pair h in elim (cmp i p) [
 pub term-at : {t : List ℕ} (g : WholeTerm t) (i : ℕ) → i < length t → TermAt t i
 term-at g i h = let k = every (g .term) (g .stands) i (omega arith) h in record { short = g .short; end = k .end; term = k .term; stands = k .stands }
 
--- ---- One figure.
+-- ---- The size and the scope of one term.
 module _ {t sizes scopes : List ℕ} {i : ℕ} (s : SizedFrom t sizes scopes (i + 1)) where
-  pub leaf-figure : getD t i 0 < 0xfe → FigureAt t i (record { size = 1; scope = 0 })
+  pub leaf-extent : getD t i 0 < 0xfe → ExtentAt t i (record { size = 1; scope = 0 })
   unfolding size scope
-  leaf-figure h = record { size-is = λ e X k. sz (head k); scope-is = λ e X k. sc (head k) }
+  leaf-extent h = record { size-is = λ e X k. sz (head k); scope-is = λ e X k. sc (head k) }
     where
       sz : {e : ℕ} {X : Term} → Head t i e X → 1 ≡ size X
       sz (head-tau x y) = refl
@@ -117,9 +117,9 @@ module _ {t sizes scopes : List ℕ} {i : ℕ} (s : SizedFrom t sizes scopes (i 
         let l′ : Stands t m e B = rw n l in
         (qa ∙ u, qc ∙ s .sizes-are m e B (omega (arith, k .place)) l′, qx ∙ s .scopes-are (i + 1) m′ K (omega arith) k′, qy ∙ s .scopes-are m e B (omega (arith, k .place)) l′)
 
-    pub app-figure : {r : ℕ} → getD t i 0 ≡ 0xfe → r ≡ max x y → FigureAt t i (record { size = 1 + a + c; scope = r })
+    pub app-extent : {r : ℕ} → getD t i 0 ≡ 0xfe → r ≡ max x y → ExtentAt t i (record { size = 1 + a + c; scope = r })
     unfolding size scope
-    app-figure {r} h q = record { size-is = λ e X k. sz (head k); scope-is = λ e X k. sc (head k) }
+    app-extent {r} h q = record { size-is = λ e X k. sz (head k); scope-is = λ e X k. sc (head k) }
       where
         sz : {e : ℕ} {X : Term} → Head t i e X → 1 + a + c ≡ size X
         sz (head-tau x y) = absurd (omega arith)
@@ -133,9 +133,9 @@ module _ {t sizes scopes : List ℕ} {i : ℕ} (s : SizedFrom t sizes scopes (i 
         sc (head-app b k l) = let z = parts k l in omega (arith, z .2, z .3)
         sc (head-abs b k l) = absurd (omega arith)
 
-    pub abs-figure : {r : ℕ} → 0xfe ≤ getD t i 0 → (getD t i 0 ≡ 0xfe → ⊥) → r ≡ max x (y + 1) → FigureAt t i (record { size = 1 + a + c; scope = r })
+    pub abs-extent : {r : ℕ} → 0xfe ≤ getD t i 0 → (getD t i 0 ≡ 0xfe → ⊥) → r ≡ max x (y + 1) → ExtentAt t i (record { size = 1 + a + c; scope = r })
     unfolding size scope
-    abs-figure {r} h o q = record { size-is = λ e X k. sz (head k); scope-is = λ e X k. sc (head k) }
+    abs-extent {r} h o q = record { size-is = λ e X k. sz (head k); scope-is = λ e X k. sc (head k) }
       where
         sz : {e : ℕ} {X : Term} → Head t i e X → 1 + a + c ≡ size X
         sz (head-tau x y) = absurd (omega arith)
@@ -156,7 +156,7 @@ sized-none t sizes scopes = record { sizes-are = λ p e X h k. absurd (omega (ar
 pub sized-all : {t sizes scopes : List ℕ} {i : ℕ} → i ≤ 0 → SizedFrom t sizes scopes i → Sized t sizes scopes
 sized-all h s = record { sizes-are = λ p e X k. s .sizes-are p e X (omega arith) k; scopes-are = λ p e X k. s .scopes-are p e X (omega arith) k }
 
-pub sized-more : {t sizes scopes : List ℕ} {i j : ℕ} {r : Figures} → j ≡ i + 1 → i < length sizes → i < length scopes → SizedFrom t sizes scopes j → FigureAt t i r → SizedFrom t (set sizes i (r .size)) (set scopes i (r .scope)) i
+pub sized-more : {t sizes scopes : List ℕ} {i j : ℕ} {r : Extent} → j ≡ i + 1 → i < length sizes → i < length scopes → SizedFrom t sizes scopes j → ExtentAt t i r → SizedFrom t (set sizes i (r .size)) (set scopes i (r .scope)) i
 sized-more {t} {sizes} {scopes} {i} {j} {r} q l m s f = record { sizes-are = λ p e X h k. sz p e X h k (cmp p i); scopes-are = λ p e X h k. sc p e X h k (cmp p i) }
   where
     sz : (p e : ℕ) (X : Term) → i ≤ p → Stands t p e X → Cmp p i → getD (set sizes i (r .size)) p 0 ≡ size X
@@ -170,8 +170,8 @@ sized-more {t} {sizes} {scopes} {i} {j} {r} q l m s f = record { sizes-are = λ 
 pub sized-step : {t sizes scopes : List ℕ} {i : ℕ} → 0 < i → SizedFrom t sizes scopes i → SizedFrom t sizes scopes (i - 1 + 1)
 sized-step h s = record { sizes-are = λ p e X k. s .sizes-are p e X (omega arith); scopes-are = λ p e X k. s .scopes-are p e X (omega arith) }
 
-pub figure-small : {t : List ℕ} {i : ℕ} {r : Figures} → TermAt t i → FigureAt t i r → (r .size < 65536) × (r .scope < 65536)
-figure-small g f = (omega (arith, f .size-is (g .end) (g .term) (g .stands), g .stands .place, stands-end (g .stands), g .short), omega (arith, f .scope-is (g .end) (g .term) (g .stands), scope-size (g .term), g .stands .place, stands-end (g .stands), g .short))
+pub extent-small : {t : List ℕ} {i : ℕ} {r : Extent} → TermAt t i → ExtentAt t i r → (r .size < 65536) × (r .scope < 65536)
+extent-small g f = (omega (arith, f .size-is (g .end) (g .term) (g .stands), g .stands .place, stands-end (g .stands), g .short), omega (arith, f .scope-is (g .end) (g .term) (g .stands), scope-size (g .term), g .stands .place, stands-end (g .stands), g .short))
 
 -- ---- The whole.
 stands-whole : {t : List ℕ} {T : Term} → encode T ≡ t → Coded T → Stands t 0 (length t) T

@@ -19,8 +19,8 @@ use Rattle.waiting.specs.Waiting.{queueLength, within}
 use Rattle.copies.specs.State.{Says, Room}
 use Rattle.walk.specs.State.{OwnAt}
 use Rattle.copies.specs.declared.Walked.{Walked}
-use Rattle.waiting.specs.declared.Figures.{Figures}
-use Rattle.walk.specs.declared.Passing.{Passing}
+use Rattle.waiting.specs.declared.Extent.{Extent}
+use Rattle.walk.specs.declared.Advance.{Advance}
 
 -- THE TERM'S OWN TEXT
 -- What follows the inside of an applicator or an abstractor, once that has passed.
@@ -56,12 +56,12 @@ pub record AbsHere (t : List ℕ) (at : ℕ) : Type 0 where
   pub high : 0xfe ≤ getD t at 0
   pub no-app : getD t at 0 ≡ 0xfe → ⊥
 
-pub data Continues (file t w ws ys : List ℕ) (base : ℕ) (r : Passing) : Run → Type 0 where
+pub data Continues (file t w ws ys : List ℕ) (base : ℕ) (r : Advance) : Run → Type 0 where
   pass-stops : {x : Run} → (r .out .number ≡ 0 → ⊥) → Says file (r .out) x → Continues file t w ws ys base r x
   pass-goes : {x : Run} {R : Frame} {W : List Waiting} {B : Term} {p : Progress} → r .out .number ≡ 0
       → OwnAt file t w ws ys base (r .top) (r .at) (r .frame) (r .out .next) (r .out .comparisons) R W B p → x ≡ ownFrom (r .at) R W B p → Continues file t w ws ys base r x
 
-pub record Passes (file t w w′ ws ws′ ys : List ℕ) (base top at : ℕ) (f : FrameRecord) (next count : ℕ) (r : Passing) : Type 0 where
+pub record Passes (file t w w′ ws ws′ ys : List ℕ) (base top at : ℕ) (f : FrameRecord) (next count : ℕ) (r : Advance) : Type 0 where
   pub work : length w′ ≡ longestState
   pub below : Agree w w′ 0 (f .end)
   pub grown : f .end ≤ r .frame .end
@@ -97,7 +97,7 @@ pub record TermAt (t : List ℕ) (i : ℕ) : Type 0 where
   pub term : Term
   pub stands : Stands t i end term
 
-pub record FigureAt (t : List ℕ) (i : ℕ) (r : Figures) : Type 0 where
+pub record ExtentAt (t : List ℕ) (i : ℕ) (r : Extent) : Type 0 where
   pub size-is : (e : ℕ) (X : Term) → Stands t i e X → r .size ≡ size X
   pub scope-is : (e : ℕ) (X : Term) → Stands t i e X → r .scope ≡ scope X
 

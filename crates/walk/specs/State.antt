@@ -12,7 +12,7 @@ use Rattle.code.specs.Scope.{scope}
 use Rattle.frames.specs.Stored.{Stored}
 use Rattle.frames.specs.declared.FrameRecord.{FrameRecord}
 use Rattle.verdict.specs.Verdict.{Progress}
-use Rattle.recursion.specs.Recursion.{Waiting, terms}
+use Rattle.recursion.specs.Recursion.{Waiting, termsOf}
 use Rattle.copies.specs.State.{Sound, Reached}
 use Rattle.waiting.specs.Waiting.{queueLength, Queue}
 

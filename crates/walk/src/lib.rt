@@ -6,7 +6,13 @@ ghost use Rattle.code.specs.Code.{Tabled};
 ghost use Rattle.frames.specs.Stored.{recordOf};
 ghost use Rattle.compare.specs.Sides.{Buffers};
 ghost use Rattle.walk.specs.State.{Sized};
-ghost use Rattle.walk.specs.Contracts.{OwnStated, OwnReady, InnerEnd, AbsHere, Passes, Ends, Checks, SizedFrom, TermAt, FigureAt, WholeTerm, Walkable, WalkAnswer};
+ghost use Rattle.walk.specs.Contracts.{OwnStated, OwnReady, InnerEnd, AbsHere, Passes, Ends, Checks, SizedFrom, TermAt, ExtentAt, WholeTerm, Walkable, WalkAnswer};
+use code::Deltas;
+use code::numbers::ACCEPTED;
+use code::numbers::LONGEST_STATE;
+use code::numbers::LONGEST_TERM;
+use code::numbers::OUTGROWN;
+use code::numbers::STILL_WAITING;
 use code::table;
 use compare::compare;
 use copies::Copying;
@@ -15,22 +21,29 @@ use copies::copied;
 use copies::scope_or_fit;
 use copies::wide;
 use frames::FrameRecord;
+use frames::Starts;
+use frames::Work;
 use frames::empty_frame;
 use frames::entry_at_by;
 use frames::push;
 use indices::larger;
-use waiting::Figures;
+use waiting::Extent;
+use waiting::QUEUE_LENGTH;
+use waiting::Queue;
 use waiting::Slot;
-use waiting::figures_of;
 use waiting::fits;
-use waiting::note;
-use waiting::put_own;
-use waiting::put_wait;
 use waiting::slot_at;
+use waiting::store_slot;
+use waiting::waiting_extent;
 use waiting::wide16;
+use waiting::write_from_text;
+use waiting::write_last_of_w;
+
+// A number for each place of the term.
+type Extents = [u16; LONGEST_TERM];
 
 // What follows an applicator or an abstractor of the term's own text: the answer so far, the frame, the top of W, the place.
-pub struct Passing {
+pub struct Advance {
     pub out: Walked,
     pub frame: FrameRecord,
     pub top: usize,
@@ -42,21 +55,21 @@ pub struct Passing {
 fn pass_app(
     file: &[u8],
     t: &[u8],
-    scopes: &[u16; 4096],
-    work: &[u8; 8192],
-    ws: &mut [u16; 28672],
-    ys: &[u16; 28672],
+    scopes: &Extents,
+    work: &Work,
+    ws: &mut Queue,
+    ys: &Queue,
     base: usize,
     top: usize,
     at: usize,
     f: FrameRecord,
     out: Walked,
     m: usize,
-) -> Passing
+) -> Advance
     requires { ⌜ OwnReady (now file) (now t) (now work) (now ws) (now ys) base top at f (out .next) (out .comparisons) × InnerEnd (now t) (now scopes) at m × (getD (now t) at 0 ≡ 0xfe) × (out .number ≡ 0) ⌝ }
     ensures { λ r. ⌜ Passes (now (file .entry)) (now (t .entry)) (now (work .entry)) (now (work .entry)) (now (ws .entry)) (now (ws .exit)) (now (ys .entry)) base top at f (out .next) (out .comparisons) r ⌝ }
 {
-    let y = figures_of(ws, base, top);
+    let y = waiting_extent(ws, base, top);
     let v = Slot {
         size: y.size + (m - at),
         scope: larger(wide16(scopes[at + 1]), y.scope),
@@ -66,8 +79,8 @@ fn pass_app(
         shift: 0,
         cut: 0,
     };
-    note(ws, top, v);
-    Passing {
+    store_slot(ws, top, v);
+    Advance {
         out,
         frame: f,
         top: top + 1,
@@ -79,24 +92,24 @@ fn pass_app(
 fn pass_alone(
     file: &[u8],
     t: &[u8],
-    scopes: &[u16; 4096],
-    work: &mut [u8; 8192],
-    ws: &[u16; 28672],
-    ys: &[u16; 28672],
+    scopes: &Extents,
+    work: &mut Work,
+    ws: &Queue,
+    ys: &Queue,
     base: usize,
     top: usize,
     at: usize,
     f: FrameRecord,
     out: Walked,
     m: usize,
-) -> Passing
+) -> Advance
     requires { ⌜ OwnReady (now file) (now t) (now work) (now ws) (now ys) base top at f (out .next) (out .comparisons) × InnerEnd (now t) (now scopes) at m × AbsHere (now t) at × (out .number ≡ 0) × (top ≡ base) ⌝ }
     ensures { λ r. ⌜ Passes (now (file .entry)) (now (t .entry)) (now (work .entry)) (now (work .exit)) (now (ws .entry)) (now (ws .entry)) (now (ys .entry)) base top at f (out .next) (out .comparisons) r ⌝ }
 {
     let to = f.end;
-    let b = put_own(t, work, 0xff, at + 1, m, to, 0, 0, 0);
+    let b = write_from_text(t, work, 0xff, at + 1, m, to, 0, 0, 0);
     let g = push(f, b);
-    Passing {
+    Advance {
         out,
         frame: g,
         top,
@@ -108,10 +121,10 @@ fn pass_alone(
 fn pass_pair(
     file: &[u8],
     t: &[u8],
-    scopes: &[u16; 4096],
-    work: &mut [u8; 8192],
-    ws: &[u16; 28672],
-    ys: &[u16; 28672],
+    scopes: &Extents,
+    work: &mut Work,
+    ws: &Queue,
+    ys: &Queue,
     left: &mut [u8; 4096],
     right: &mut [u8; 4096],
     base: usize,
@@ -120,15 +133,15 @@ fn pass_pair(
     f: FrameRecord,
     out: Walked,
     m: usize,
-) -> Passing
+) -> Advance
     requires { ⌜ OwnReady (now file) (now t) (now work) (now ws) (now ys) base top at f (out .next) (out .comparisons) × InnerEnd (now t) (now scopes) at m × AbsHere (now t) at × (out .number ≡ 0) × (top ≡ base → ⊥) × Buffers (now left) (now right) ⌝ }
     ensures { λ r. ⌜ Passes (now (file .entry)) (now (t .entry)) (now (work .entry)) (now (work .exit)) (now (ws .entry)) (now (ws .entry)) (now (ys .entry)) base top at f (out .next) (out .comparisons) r × Buffers (now (left .exit)) (now (right .exit)) ⌝ }
 {
     let to = f.end;
-    let a = put_wait(t, work, ws, base, top, f.len, to);
-    let b = put_own(t, work, 0xff, at + 1, m, a, 0, 0, 0);
+    let a = write_last_of_w(t, work, ws, base, top, f.len, to);
+    let b = write_from_text(t, work, 0xff, at + 1, m, a, 0, 0, 0);
     let q = compare(file, out.next, work, f, a, b, left, right);
-    if q.number != 0 {
+    if q.number != ACCEPTED {
         let v = slot_at(ws, top - 1);
         let stop = Walked {
             number: q.number,
@@ -136,7 +149,7 @@ fn pass_pair(
             comparisons: out.comparisons,
             next: out.next,
         };
-        return Passing {
+        return Advance {
             out: stop,
             frame: f,
             top,
@@ -145,12 +158,12 @@ fn pass_pair(
     }
     let g = push(f, b);
     let next = Walked {
-        number: 0,
+        number: ACCEPTED,
         place: 0,
         comparisons: out.comparisons + 1,
         next: q.next,
     };
-    Passing {
+    Advance {
         out: next,
         frame: g,
         top: top - 1,
@@ -162,11 +175,11 @@ fn pass_pair(
 fn pass(
     file: &[u8],
     t: &[u8],
-    sizes: &[u16; 4096],
-    scopes: &[u16; 4096],
-    work: &mut [u8; 8192],
-    ws: &mut [u16; 28672],
-    ys: &[u16; 28672],
+    sizes: &Extents,
+    scopes: &Extents,
+    work: &mut Work,
+    ws: &mut Queue,
+    ys: &Queue,
     left: &mut [u8; 4096],
     right: &mut [u8; 4096],
     base: usize,
@@ -174,7 +187,7 @@ fn pass(
     at: usize,
     f: FrameRecord,
     out: Walked,
-) -> Passing
+) -> Advance
     requires { ⌜ OwnReady (now file) (now t) (now work) (now ws) (now ys) base top at f (out .next) (out .comparisons) × Sized (now t) (now sizes) (now scopes) × (0xfe ≤ getD (now t) at 0) × (out .number ≡ 0) × Buffers (now left) (now right) ⌝ }
     ensures { λ r. ⌜ Passes (now (file .entry)) (now (t .entry)) (now (work .entry)) (now (work .exit)) (now (ws .entry)) (now (ws .exit)) (now (ys .entry)) base top at f (out .next) (out .comparisons) r × Buffers (now (left .exit)) (now (right .exit)) ⌝ }
 {
@@ -217,27 +230,27 @@ fn halt(number: u32, place: usize, comparisons: usize, next: usize) -> Walked
 // The variable of the term's own text at `at`: (vii), and then (viii).
 fn variable(
     file: &[u8],
-    tb: &[i32; 256],
+    deltas: &Deltas,
     t: &[u8],
-    work: &mut [u8; 8192],
-    ws: &[u16; 28672],
-    ys: &mut [u16; 28672],
+    work: &mut Work,
+    ws: &Queue,
+    ys: &mut Queue,
     left: &mut [u8; 4096],
     right: &mut [u8; 4096],
     base: usize,
     top: usize,
     at: usize,
-    starts: &[u16; 253],
+    starts: &Starts,
     len: usize,
     end: usize,
     next: usize,
     count: usize,
 ) -> Walked
-    requires { ⌜ Tabled (now tb) × OwnReady (now file) (now t) (now work) (now ws) (now ys) base top at (recordOf (now starts) len end) next count × (getD (now t) at 0 ≡ 0 → ⊥) × (getD (now t) at 0 < 0xfe) × Buffers (now left) (now right) ⌝ }
+    requires { ⌜ Tabled (now deltas) × OwnReady (now file) (now t) (now work) (now ws) (now ys) base top at (recordOf (now starts) len end) next count × (getD (now t) at 0 ≡ 0 → ⊥) × (getD (now t) at 0 < 0xfe) × Buffers (now left) (now right) ⌝ }
     ensures { λ r. ⌜ Ends (now (file .entry)) (now (t .entry)) (now (work .entry)) (now (work .exit)) (now (ws .entry)) (now (ys .entry)) (now (ys .exit)) base top at (recordOf (now (starts .entry)) len end) next count r × Buffers (now (left .exit)) (now (right .exit)) ⌝ }
 {
     let k = wide(t[at]);
-    let e = entry_at_by(tb, work, starts, len, end, k);
+    let e = entry_at_by(deltas, work, starts, len, end, k);
     let scope = scope_or_fit(work, e.domain, e.end, len);
     let s = Copying {
         top,
@@ -252,7 +265,7 @@ fn variable(
     };
     copied(
         file,
-        tb,
+        deltas,
         t,
         work,
         ws,
@@ -269,34 +282,34 @@ fn variable(
 }
 
 // The end of the term's own text: τ or a variable at `at`.
-fn last(
+fn own_end(
     file: &[u8],
-    tb: &[i32; 256],
+    deltas: &Deltas,
     t: &[u8],
-    work: &mut [u8; 8192],
-    ws: &[u16; 28672],
-    ys: &mut [u16; 28672],
+    work: &mut Work,
+    ws: &Queue,
+    ys: &mut Queue,
     left: &mut [u8; 4096],
     right: &mut [u8; 4096],
     base: usize,
     top: usize,
     at: usize,
-    starts: &[u16; 253],
+    starts: &Starts,
     len: usize,
     end: usize,
     next: usize,
     count: usize,
 ) -> Walked
-    requires { ⌜ Tabled (now tb) × OwnStated (now file) (now t) (now work) (now ws) (now ys) base top at (recordOf (now starts) len end) next count × (getD (now t) at 0 < 0xfe) × Buffers (now left) (now right) ⌝ }
+    requires { ⌜ Tabled (now deltas) × OwnStated (now file) (now t) (now work) (now ws) (now ys) base top at (recordOf (now starts) len end) next count × (getD (now t) at 0 < 0xfe) × Buffers (now left) (now right) ⌝ }
     ensures { λ r. ⌜ Checks (now (file .entry)) (now (t .entry)) (now (work .entry)) (now (work .exit)) (now (ws .entry)) (now (ws .entry)) (now (ys .entry)) (now (ys .exit)) base top at (recordOf (now (starts .entry)) len end) next count r × Buffers (now (left .exit)) (now (right .exit)) ⌝ }
 {
     if !fits(ws, ys, base, top, 0, end, len, 1, 0) {
-        return halt(11, at, count, next);
+        return halt(OUTGROWN, at, count, next);
     }
     if t[at] != 0 {
         return variable(
             file,
-            tb,
+            deltas,
             t,
             work,
             ws,
@@ -314,22 +327,22 @@ fn last(
         );
     }
     if top == base {
-        return halt(0, 0, count, next);
+        return halt(ACCEPTED, 0, count, next);
     }
     let v = slot_at(ws, top - 1);
-    halt(8, v.place, count, next)
+    halt(STILL_WAITING, v.place, count, next)
 }
 
 // The term's own text from `at` on: a loop along it, and a call for the inside of each applicator and abstractor.
 fn term(
     file: &[u8],
-    tb: &[i32; 256],
+    deltas: &Deltas,
     t: &[u8],
-    sizes: &[u16; 4096],
-    scopes: &[u16; 4096],
-    work: &mut [u8; 8192],
-    ws: &mut [u16; 28672],
-    ys: &mut [u16; 28672],
+    sizes: &Extents,
+    scopes: &Extents,
+    work: &mut Work,
+    ws: &mut Queue,
+    ys: &mut Queue,
     left: &mut [u8; 4096],
     right: &mut [u8; 4096],
     base: usize,
@@ -339,7 +352,7 @@ fn term(
     next: usize,
     count: usize,
 ) -> Walked
-    requires { ⌜ Tabled (now tb) × Sized (now t) (now sizes) (now scopes) × OwnStated (now file) (now t) (now work) (now ws) (now ys) base top at fr next count × Buffers (now left) (now right) ⌝ }
+    requires { ⌜ Tabled (now deltas) × Sized (now t) (now sizes) (now scopes) × OwnStated (now file) (now t) (now work) (now ws) (now ys) base top at fr next count × Buffers (now left) (now right) ⌝ }
     ensures { λ r. ⌜ Checks (now (file .entry)) (now (t .entry)) (now (work .entry)) (now (work .exit)) (now (ws .entry)) (now (ws .exit)) (now (ys .entry)) (now (ys .exit)) base top at fr next count r × Buffers (now (left .exit)) (now (right .exit)) ⌝ }
 {
     let mut i = at;
@@ -349,11 +362,11 @@ fn term(
     let mut k = count;
     while t[i] >= 0xfe {
         if !fits(ws, ys, base, w, 0, f.end, f.len, wide16(sizes[i]), 0) {
-            return halt(11, i, k, n);
+            return halt(OUTGROWN, i, k, n);
         }
         let r = inside(
             file,
-            tb,
+            deltas,
             t,
             sizes,
             scopes,
@@ -368,7 +381,7 @@ fn term(
             n,
             k,
         );
-        if r.number != 0 {
+        if r.number != ACCEPTED {
             return r;
         }
         let q = pass(
@@ -388,7 +401,7 @@ fn term(
             r,
         );
         let o = q.out;
-        if o.number != 0 {
+        if o.number != ACCEPTED {
             return o;
         }
         let g = q.frame;
@@ -398,9 +411,9 @@ fn term(
         w = q.top;
         i = q.at;
     }
-    last(
+    own_end(
         file,
-        tb,
+        deltas,
         t,
         work,
         ws,
@@ -421,13 +434,13 @@ fn term(
 // The inside of an applicator or an abstractor: nothing waits.
 fn inside(
     file: &[u8],
-    tb: &[i32; 256],
+    deltas: &Deltas,
     t: &[u8],
-    sizes: &[u16; 4096],
-    scopes: &[u16; 4096],
-    work: &mut [u8; 8192],
-    ws: &mut [u16; 28672],
-    ys: &mut [u16; 28672],
+    sizes: &Extents,
+    scopes: &Extents,
+    work: &mut Work,
+    ws: &mut Queue,
+    ys: &mut Queue,
     left: &mut [u8; 4096],
     right: &mut [u8; 4096],
     top: usize,
@@ -436,12 +449,12 @@ fn inside(
     next: usize,
     count: usize,
 ) -> Walked
-    requires { ⌜ Tabled (now tb) × Sized (now t) (now sizes) (now scopes) × OwnStated (now file) (now t) (now work) (now ws) (now ys) top top at fr next count × Buffers (now left) (now right) ⌝ }
+    requires { ⌜ Tabled (now deltas) × Sized (now t) (now sizes) (now scopes) × OwnStated (now file) (now t) (now work) (now ws) (now ys) top top at fr next count × Buffers (now left) (now right) ⌝ }
     ensures { λ r. ⌜ Checks (now (file .entry)) (now (t .entry)) (now (work .entry)) (now (work .exit)) (now (ws .entry)) (now (ws .exit)) (now (ys .entry)) (now (ys .exit)) top top at fr next count r × Buffers (now (left .exit)) (now (right .exit)) ⌝ }
 {
     term(
         file,
-        tb,
+        deltas,
         t,
         sizes,
         scopes,
@@ -461,13 +474,13 @@ fn inside(
 
 // ---- Sizes and scopes.
 // Those of the term that starts at i, where those of all later ones are known.
-fn figure(t: &[u8], sizes: &[u16; 4096], scopes: &[u16; 4096], i: usize) -> Figures
+fn extent_at(t: &[u8], sizes: &Extents, scopes: &Extents, i: usize) -> Extent
     requires { ⌜ SizedFrom (now t) (now sizes) (now scopes) (i + 1) × TermAt (now t) i ⌝ }
-    ensures { λ r. ⌜ FigureAt (now (t .entry)) i r ⌝ }
+    ensures { λ r. ⌜ ExtentAt (now (t .entry)) i r ⌝ }
 {
     let b = t[i];
     if b < 0xfe {
-        return Figures { size: 1, scope: 0 };
+        return Extent { size: 1, scope: 0 };
     }
     let a = wide16(sizes[i + 1]);
     let m = i + 1 + a;
@@ -475,26 +488,26 @@ fn figure(t: &[u8], sizes: &[u16; 4096], scopes: &[u16; 4096], i: usize) -> Figu
     let c = wide16(sizes[m]);
     let y = wide16(scopes[m]);
     if b == 0xfe {
-        return Figures {
+        return Extent {
             size: 1 + a + c,
             scope: larger(x, y),
         };
     }
-    Figures {
+    Extent {
         size: 1 + a + c,
         scope: larger(x, y + 1),
     }
 }
 
 // Those of all the terms that stand in t, from the right.
-fn size_all(t: &[u8], sizes: &mut [u16; 4096], scopes: &mut [u16; 4096])
+fn size_all(t: &[u8], sizes: &mut Extents, scopes: &mut Extents)
     requires { ⌜ WholeTerm (now t) × (length (now sizes) ≡ 4096) × (length (now scopes) ≡ 4096) ⌝ }
     ensures { λ r. ⌜ Sized (now (t .entry)) (now (sizes .exit)) (now (scopes .exit)) ⌝ }
 {
     let mut i = t.len();
     while i > 0 {
         i -= 1;
-        let v = figure(t, sizes, scopes, i);
+        let v = extent_at(t, sizes, scopes, i);
         sizes[i] = v.size as u16;
         scopes[i] = v.scope as u16;
     }
@@ -505,19 +518,19 @@ pub fn walk_term(file: &[u8], t: &[u8], at: usize) -> Walked
     requires { ⌜ Walkable (now file) (now t) at ⌝ }
     ensures { λ r. ⌜ WalkAnswer (now (file .entry)) (now (t .entry)) at r ⌝ }
 {
-    let mut work: [u8; 8192] = [0; 8192];
-    let mut ws: [u16; 28672] = [0; 28672];
-    let mut ys: [u16; 28672] = [0; 28672];
-    let mut left: [u8; 4096] = [0; 4096];
-    let mut right: [u8; 4096] = [0; 4096];
-    let mut sizes: [u16; 4096] = [0; 4096];
-    let mut scopes: [u16; 4096] = [0; 4096];
-    let tb = table();
+    let mut work: Work = [0; LONGEST_STATE];
+    let mut ws: Queue = [0; QUEUE_LENGTH];
+    let mut ys: Queue = [0; QUEUE_LENGTH];
+    let mut left: [u8; 4096] = [0; LONGEST_TERM];
+    let mut right: [u8; 4096] = [0; LONGEST_TERM];
+    let mut sizes: Extents = [0; LONGEST_TERM];
+    let mut scopes: Extents = [0; LONGEST_TERM];
+    let deltas = table();
     size_all(t, &mut sizes, &mut scopes);
     let fr = empty_frame();
     term(
         file,
-        &tb,
+        &deltas,
         t,
         &sizes,
         &scopes,

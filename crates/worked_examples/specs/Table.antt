@@ -31,17 +31,17 @@ pub record Example : Type 0 where
   pub call : Call
   pub gives : Answer
 
-abbrev pub examined : List ℕ → (number place degree : ℕ) → Example
-examined s n p d = record { call = examine-term s; gives = of-term (record { number = n; place = p; degree = d }) }
+abbrev pub examineGives : List ℕ → (number place degree : ℕ) → Example
+examineGives s n p d = record { call = examine-term s; gives = of-term (record { number = n; place = p; degree = d }) }
 
-abbrev pub checked : List ℕ → (number place comparisons degree : ℕ) → Example
-checked s n p c d = record { call = check-file s; gives = of-file (record { number = n; place = p; comparisons = c; degree = d }) }
+abbrev pub checkGives : List ℕ → (number place comparisons degree : ℕ) → Example
+checkGives s n p c d = record { call = check-file s; gives = of-file (record { number = n; place = p; comparisons = c; degree = d }) }
 
-abbrev pub typed : (s out : List ℕ) → Written → Example
-typed s out w = record { call = write-type s out; gives = of-buffer w }
+abbrev pub typeGives : (s out : List ℕ) → Written → Example
+typeGives s out w = record { call = write-type s out; gives = of-buffer w }
 
-abbrev pub stepped : List ℕ → (kind place : ℕ) → List ℕ → Written → Example
-stepped s k p out w = record { call = apply-step s k p out; gives = of-buffer w }
+abbrev pub stepGives : List ℕ → (kind place : ℕ) → List ℕ → Written → Example
+stepGives s k p out w = record { call = apply-step s k p out; gives = of-buffer w }
 
 -- A file: a term of so many bytes, below 256, and then its groups.
 abbrev pub file : ℕ → List ℕ → List ℕ → List ℕ
@@ -72,8 +72,8 @@ abbrev pub e5 : List ℕ
 e5 = 0xff ∷ 0x00 ∷ 0xff ∷ 0xff ∷ 0x01 ∷ 0x02 ∷ 0xff ∷ 0x02 ∷ 0xfe ∷ 0x01 ∷ 0x02 ∷ []
 
 -- the term of condition 11: 509 bytes, 01 fd in a field's head
-abbrev pub outgrown : List ℕ
-outgrown = 0xff ∷ 0xff ∷ 0x00 ∷ 0x00 ∷ abstractors 252 (0xfd ∷ [])
+abbrev pub outgrowing : List ℕ
+outgrowing = 0xff ∷ 0xff ∷ 0x00 ∷ 0x00 ∷ abstractors 252 (0xfd ∷ [])
 
 -- [τ]⟨1⟩[1]1 and [τ]⟨1⟩[1]2
 abbrev pub paired : ℕ → List ℕ
@@ -82,35 +82,35 @@ paired k = 0xff ∷ 0x00 ∷ 0xfe ∷ 0x01 ∷ 0xff ∷ 0x01 ∷ k ∷ []
 abbrev pub table : List Example
 table =
     -- E1: its degree, and its type
-    examined e1 0 0 3
-    ∷ typed e1 (0xaa ∷ 0xaa ∷ 0xaa ∷ 0xaa ∷ 0xaa ∷ 0xaa ∷ []) (answer 0 0 5 (0xff ∷ 0x00 ∷ 0xff ∷ 0x01 ∷ 0x02 ∷ 0xaa ∷ []))
-    ∷ checked (file 5 e1 []) 0 0 0 3
+    examineGives e1 0 0 3
+    ∷ typeGives e1 (0xaa ∷ 0xaa ∷ 0xaa ∷ 0xaa ∷ 0xaa ∷ 0xaa ∷ []) (answer 0 0 5 (0xff ∷ 0x00 ∷ 0xff ∷ 0x01 ∷ 0x02 ∷ 0xaa ∷ []))
+    ∷ checkGives (file 5 e1 []) 0 0 0 3
     -- E2 to E5
-    ∷ checked (file 9 e2 group) 0 0 1 3
-    ∷ checked (file 13 e3 (group ++ right-step)) 0 0 2 3
-    ∷ checked (file 13 e3 (group ++ group)) 12 8 1 3
-    ∷ checked (file 11 e5 group) 0 0 1 3
+    ∷ checkGives (file 9 e2 group) 0 0 1 3
+    ∷ checkGives (file 13 e3 (group ++ right-step)) 0 0 2 3
+    ∷ checkGives (file 13 e3 (group ++ group)) 12 8 1 3
+    ∷ checkGives (file 11 e5 group) 0 0 1 3
     -- E6 to E9: the examples of 7, 8, 9 and 13
-    ∷ checked (file 5 (0xfe ∷ 0x00 ∷ 0xff ∷ 0x00 ∷ 0x00 ∷ []) []) 7 0 0 1
-    ∷ checked (file 3 (0xfe ∷ 0x00 ∷ 0x00 ∷ []) []) 8 0 0 1
-    ∷ checked (file 9 e2 []) 9 4 0 3
-    ∷ checked (file 1 (0x00 ∷ []) group) 13 4 0 1
+    ∷ checkGives (file 5 (0xfe ∷ 0x00 ∷ 0xff ∷ 0x00 ∷ 0x00 ∷ []) []) 7 0 0 1
+    ∷ checkGives (file 3 (0xfe ∷ 0x00 ∷ 0x00 ∷ []) []) 8 0 0 1
+    ∷ checkGives (file 9 e2 []) 9 4 0 3
+    ∷ checkGives (file 1 (0x00 ∷ []) group) 13 4 0 1
     -- the example of 11, in a check and as a written result
-    ∷ checked (0x01 ∷ 0x01 ∷ 0xfd ∷ outgrown) 11 508 0 2
-    ∷ typed outgrown [] (answer 11 0 0 [])
+    ∷ checkGives (0x01 ∷ 0x01 ∷ 0xfd ∷ outgrowing) 11 508 0 2
+    ∷ typeGives outgrowing [] (answer 11 0 0 [])
     -- the examples of 10 and 12
-    ∷ checked (file 9 e2 (0x02 ∷ 0x00 ∷ 0x03 ∷ 0x09 ∷ 0x00 ∷ 0x00 ∷ 0x03 ∷ 0x00 ∷ 0x00 ∷ [])) 10 4 0 3
-    ∷ checked (file 9 (0xff ∷ 0x00 ∷ 0xff ∷ 0x01 ∷ 0xfe ∷ 0x01 ∷ 0xff ∷ 0x00 ∷ 0x01 ∷ []) group) 12 4 0 2
+    ∷ checkGives (file 9 e2 (0x02 ∷ 0x00 ∷ 0x03 ∷ 0x09 ∷ 0x00 ∷ 0x00 ∷ 0x03 ∷ 0x00 ∷ 0x00 ∷ [])) 10 4 0 3
+    ∷ checkGives (file 9 (0xff ∷ 0x00 ∷ 0xff ∷ 0x01 ∷ 0xfe ∷ 0x01 ∷ 0xff ∷ 0x00 ∷ 0x01 ∷ []) group) 12 4 0 2
     -- the example of 14; no type; the example of 3
-    ∷ typed (0xff ∷ 0x00 ∷ 0x01 ∷ []) (0xaa ∷ 0xaa ∷ []) (answer 14 0 0 (0xaa ∷ 0xaa ∷ []))
-    ∷ typed (0x00 ∷ []) (0xaa ∷ []) (nothing (0xaa ∷ []))
-    ∷ typed (0xff ∷ 0x00 ∷ []) (0xaa ∷ []) (answer 3 2 0 (0xaa ∷ []))
+    ∷ typeGives (0xff ∷ 0x00 ∷ 0x01 ∷ []) (0xaa ∷ 0xaa ∷ []) (answer 14 0 0 (0xaa ∷ 0xaa ∷ []))
+    ∷ typeGives (0x00 ∷ []) (0xaa ∷ []) (nothing (0xaa ∷ []))
+    ∷ typeGives (0xff ∷ 0x00 ∷ []) (0xaa ∷ []) (answer 3 2 0 (0xaa ∷ []))
     -- a local step lifts K past the pair's own abstractor; a pair is not removed while its variable is used
-    ∷ stepped (paired 0x01) 1 6 (0xaa ∷ 0xaa ∷ 0xaa ∷ 0xaa ∷ 0xaa ∷ 0xaa ∷ 0xaa ∷ 0xaa ∷ []) (answer 0 0 7 (0xff ∷ 0x00 ∷ 0xfe ∷ 0x01 ∷ 0xff ∷ 0x01 ∷ 0x02 ∷ 0xaa ∷ []))
-    ∷ stepped (paired 0x01) 2 2 [] (answer 10 0 0 [])
-    ∷ stepped (paired 0x02) 2 2 (0xaa ∷ 0xaa ∷ 0xaa ∷ 0xaa ∷ []) (answer 0 0 3 (0xff ∷ 0x00 ∷ 0x01 ∷ 0xaa ∷ []))
-    ∷ stepped (paired 0x02) 2 2 (0xaa ∷ 0xaa ∷ []) (answer 14 0 0 (0xaa ∷ 0xaa ∷ []))
-    ∷ stepped (paired 0x01) 9 0 (0xaa ∷ []) (answer 10 0 0 (0xaa ∷ []))
+    ∷ stepGives (paired 0x01) 1 6 (0xaa ∷ 0xaa ∷ 0xaa ∷ 0xaa ∷ 0xaa ∷ 0xaa ∷ 0xaa ∷ 0xaa ∷ []) (answer 0 0 7 (0xff ∷ 0x00 ∷ 0xfe ∷ 0x01 ∷ 0xff ∷ 0x01 ∷ 0x02 ∷ 0xaa ∷ []))
+    ∷ stepGives (paired 0x01) 2 2 [] (answer 10 0 0 [])
+    ∷ stepGives (paired 0x02) 2 2 (0xaa ∷ 0xaa ∷ 0xaa ∷ 0xaa ∷ []) (answer 0 0 3 (0xff ∷ 0x00 ∷ 0x01 ∷ 0xaa ∷ []))
+    ∷ stepGives (paired 0x02) 2 2 (0xaa ∷ 0xaa ∷ []) (answer 14 0 0 (0xaa ∷ 0xaa ∷ []))
+    ∷ stepGives (paired 0x01) 9 0 (0xaa ∷ []) (answer 10 0 0 (0xaa ∷ []))
     ∷ []
 
 -- One fact: each call gives its answer.

@@ -10,10 +10,10 @@ use Rattle.copies.proofs.app_turn.Reads as reads
 use Rattle.copies.proofs.app_turn.Lts as lts
 use Rattle.indices.proofs.measure.Reads as measure-reads
 use Rattle.frames.proofs.end_of.Reads as end-of-reads
-use Rattle.waiting.proofs.figures_of.Reads as figures-of-reads
-use Rattle.copies.proofs.on.Reads as on-reads
+use Rattle.waiting.proofs.waiting_extent.Reads as waiting-extent-reads
+use Rattle.copies.proofs.go_on.Reads as go-on-reads
 use Rattle.indices.proofs.larger.Reads as larger-reads
-use Rattle.waiting.proofs.note.Reads as note-reads
+use Rattle.waiting.proofs.store_slot.Reads as store-slot-reads
 
 add-end-of : tie.Need-add-end-of
 add-end-of c = search needs
@@ -27,29 +27,29 @@ add-measure c = search needs
 measure-requires : tie.Need-measure-requires
 measure-requires c κs = app-measurable (c .before .before .before .before .pre .1 .at) (c .before .before .before .before .pre .1 .room) (c .before .before .before .before .pre .2) (c .before .end-of .ensures)
 
-figures-of-requires : tie.Need-figures-of-requires
-figures-of-requires c κs = search needs
+waiting-extent-requires : tie.Need-waiting-extent-requires
+waiting-extent-requires c κs = search needs
 
 sub-t20 : tie.Need-sub-t20
 sub-t20 c = omega (arith, app-bounds (c .before .before .before .before .before .before .before .pre .1 .at) (c .before .before .before .before .before .before .before .pre .1 .room) (c .before .before .before .before .before .before .before .pre .2) (c .before .before .before .before .end-of .ensures) .0)
 
 add-t23 : tie.Need-add-t23
-add-t23 c = let b = app-bounds (c .before .before .before .before .before .before .before .before .pre .1 .at) (c .before .before .before .before .before .before .before .before .pre .1 .room) (c .before .before .before .before .before .before .before .before .pre .2) (c .before .before .before .before .before .end-of .ensures) in omega (arith, c .before .figures-of .ensures .size-bound, b .1, b .2)
+add-t23 c = let b = app-bounds (c .before .before .before .before .before .before .before .before .pre .1 .at) (c .before .before .before .before .before .before .before .before .pre .1 .room) (c .before .before .before .before .before .before .before .before .pre .2) (c .before .before .before .before .before .end-of .ensures) in omega (arith, c .before .waiting-extent .ensures .size-bound, b .1, b .2)
 
 larger-requires : tie.Need-larger-requires
 larger-requires c κs = search needs
 
-note-requires : tie.Need-note-requires
-note-requires c κs = let g = c .before .before .before .before .before .before .before .before .before .before .pre .1 in let x = c .before .before .before .before .before .before .before .end-of .ensures in (app-ytop (g .at) (g .room) (c .before .before .before .before .before .before .before .before .before .before .pre .2) x, g .at .ylong, app-small (g .at) (g .room) (c .before .before .before .before .before .before .before .before .before .before .pre .2) x (c .before .before .before .figures-of .ensures) (c .before .before .before .before .before .measure .ensures) (c .before .larger .ensures))
+store-slot-requires : tie.Need-store-slot-requires
+store-slot-requires c κs = let g = c .before .before .before .before .before .before .before .before .before .before .pre .1 in let x = c .before .before .before .before .before .before .before .end-of .ensures in (app-ytop (g .at) (g .room) (c .before .before .before .before .before .before .before .before .before .before .pre .2) x, g .at .ylong, app-small (g .at) (g .room) (c .before .before .before .before .before .before .before .before .before .before .pre .2) x (c .before .before .before .waiting-extent .ensures) (c .before .before .before .before .before .measure .ensures) (c .before .larger .ensures))
 
 add-t20 : tie.Need-add-t20
 add-t20 c = omega (arith, app-ytop (c .before .before .before .before .before .before .before .before .before .before .before .before .pre .1 .at) (c .before .before .before .before .before .before .before .before .before .before .before .before .pre .1 .room) (c .before .before .before .before .before .before .before .before .before .before .before .before .pre .2) (c .before .before .before .before .before .before .before .before .before .end-of .ensures))
 
-on-requires : tie.Need-on-requires
-on-requires c κs = search needs
+go-on-requires : tie.Need-go-on-requires
+go-on-requires c κs = search needs
 
 returns : tie.Need-returns
-returns c = rw (c .on .ensures) (noted-ruled (c .before .before .before .before .before .before .before .before .before .before .before .before .before .pre .1) (c .before .before .note .ensures) (λ R W Q B p z o. app-goes z o (c .before .before .before .before .before .before .before .before .before .before .before .before .before .pre .2) (c .before .before .before .before .before .before .before .before .before .before .end-of .ensures) (c .before .before .before .before .before .before .figures-of .ensures) (c .before .before .before .before .before .before .before .before .measure .ensures) _ (c .before .before .before .before .larger .ensures) (c .before .before .note .ensures)))
+returns c = rw (c .go-on .ensures) (noted-ruled (c .before .before .before .before .before .before .before .before .before .before .before .before .before .pre .1) (c .before .before .store-slot .ensures) (λ R W Q B p z o. app-goes z o (c .before .before .before .before .before .before .before .before .before .before .before .before .before .pre .2) (c .before .before .before .before .before .before .before .before .before .before .end-of .ensures) (c .before .before .before .before .before .before .waiting-extent .ensures) (c .before .before .before .before .before .before .before .before .measure .ensures) _ (c .before .before .before .before .larger .ensures) (c .before .before .store-slot .ensures)))
 
 pub app-turn-spec : {M : Type 1} → statement M
 app-turn-spec =
@@ -59,11 +59,11 @@ app-turn-spec =
     end-of-requires
     add-measure
     measure-requires
-    figures-of-requires
+    waiting-extent-requires
     sub-t20
     add-t23
     larger-requires
-    note-requires
+    store-slot-requires
     add-t20
-    on-requires
+    go-on-requires
     returns)

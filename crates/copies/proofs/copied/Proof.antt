@@ -16,26 +16,26 @@ abbrev μ-loop : tie.MeasureT-loop
 loop-holds : tie.Need-loop-holds Inv-loop μ-loop
 loop-holds c = (going-start _ (c .before .before .before .pre .1), c .before .before .before .pre .2)
 
-settle-requires : tie.Need-settle-requires Inv-loop μ-loop
-settle-requires c κs = (c .before .before .before .before .before .before .before .before .pre .0, now-stated (c .before .before .before .before .loop .inv .0))
+turns-to-abstractor-requires : tie.Need-turns-to-abstractor-requires Inv-loop μ-loop
+turns-to-abstractor-requires c κs = (c .before .before .before .before .before .before .before .before .pre .0, now-stated (c .before .before .before .before .loop .inv .0))
 
 returns : tie.Need-returns Inv-loop μ-loop
-returns c = (going-done (c .before .before .before .before .before .before .before .before .loop .inv .0) (turns-settled (now-stated (c .before .before .before .before .before .before .before .before .loop .inv .0)) (c .before .before .before .settle .ensures) (is-false _ (c .before .if1 .taken))) (is-false _ (c .before .if1 .taken)), c .before .before .before .before .before .before .before .before .loop .inv .1)
+returns c = (going-done (c .before .before .before .before .before .before .before .before .loop .inv .0) (turns-settled (now-stated (c .before .before .before .before .before .before .before .before .loop .inv .0)) (c .before .before .before .turns-to-abstractor .ensures) (is-false _ (c .before .if1 .taken))) (is-false _ (c .before .if1 .taken)), c .before .before .before .before .before .before .before .before .loop .inv .1)
 
 abs-turn-requires : tie.Need-abs-turn-requires Inv-loop μ-loop
-abs-turn-requires c κs = let q = settled-ready (now-stated (c .before .before .before .before .before .before .before .before .before .before .before .before .loop .inv .0)) (c .before .before .before .before .before .before .before .settle .ensures) (is-true _ (c .before .before .before .before .before .if1 .left)) in (c .before .before .before .before .before .before .before .before .before .before .before .before .before .before .before .before .pre .0, q .0, omega (arith, q .1), λ e. omega (arith, q .1, e), c .before .before .before .before .before .before .before .before .before .before .before .before .loop .inv .1)
+abs-turn-requires c κs = let q = settled-ready (now-stated (c .before .before .before .before .before .before .before .before .before .before .before .before .loop .inv .0)) (c .before .before .before .before .before .before .before .turns-to-abstractor .ensures) (is-true _ (c .before .before .before .before .before .if1 .left)) in (c .before .before .before .before .before .before .before .before .before .before .before .before .before .before .before .before .pre .0, q .0, omega (arith, q .1), λ e. omega (arith, q .1, e), c .before .before .before .before .before .before .before .before .before .before .before .before .loop .inv .1)
 
 returns-2 : tie.Need-returns-2 Inv-loop μ-loop
-returns-2 c = (going-done (c .before .before .before .before .before .before .before .before .before .before .before .before .before .before .before .before .loop .inv .0) (turns-past (now-stated (c .before .before .before .before .before .before .before .before .before .before .before .before .before .before .before .before .loop .inv .0)) (c .before .before .before .before .before .before .before .before .before .before .before .settle .ensures) (is-true _ (c .before .before .before .before .before .before .before .before .before .if1 .left)) (c .before .before .before .abs-turn .ensures .0)) (is-false _ (c .before .if2 .taken)), c .before .before .before .abs-turn .ensures .1)
+returns-2 c = (going-done (c .before .before .before .before .before .before .before .before .before .before .before .before .before .before .before .before .loop .inv .0) (turns-past (now-stated (c .before .before .before .before .before .before .before .before .before .before .before .before .before .before .before .before .loop .inv .0)) (c .before .before .before .before .before .before .before .before .before .before .before .turns-to-abstractor .ensures) (is-true _ (c .before .before .before .before .before .before .before .before .before .if1 .left)) (c .before .before .before .abs-turn .ensures .0)) (is-false _ (c .before .if2 .taken)), c .before .before .before .abs-turn .ensures .1)
 
 push-requires : tie.Need-push-requires Inv-loop μ-loop
-push-requires c κs = let q = settled-ready (now-stated (c .before .before .before .before .before .before .before .before .before .before .before .before .before .before .before .before .loop .inv .0)) (c .before .before .before .before .before .before .before .before .before .before .before .settle .ensures) (is-true _ (c .before .before .before .before .before .before .before .before .before .if1 .left)) in (fewer-entries (q .0 .at) (q .0 .room) (omega (arith, q .1)) (λ e. omega (arith, q .1, e)), q .0 .at .stored .inside)
+push-requires c κs = let q = settled-ready (now-stated (c .before .before .before .before .before .before .before .before .before .before .before .before .before .before .before .before .loop .inv .0)) (c .before .before .before .before .before .before .before .before .before .before .before .turns-to-abstractor .ensures) (is-true _ (c .before .before .before .before .before .before .before .before .before .if1 .left)) in (fewer-entries (q .0 .at) (q .0 .room) (omega (arith, q .1)) (λ e. omega (arith, q .1, e)), q .0 .at .stored .inside)
 
 loop-less : tie.Need-loop-less Inv-loop μ-loop
-loop-less c = rw (c .push .ensures) (going-fewer (c .before .before .before .before .before .before .before .before .before .before .before .before .before .before .before .before .before .loop .inv .0) (turns-past (now-stated (c .before .before .before .before .before .before .before .before .before .before .before .before .before .before .before .before .before .loop .inv .0)) (c .before .before .before .before .before .before .before .before .before .before .before .before .settle .ensures) (is-true _ (c .before .before .before .before .before .before .before .before .before .before .if1 .left)) (c .before .before .before .before .abs-turn .ensures .0)) (is-true _ (c .before .before .if2 .left)))
+loop-less c = rw (c .push .ensures) (going-fewer (c .before .before .before .before .before .before .before .before .before .before .before .before .before .before .before .before .before .loop .inv .0) (turns-past (now-stated (c .before .before .before .before .before .before .before .before .before .before .before .before .before .before .before .before .before .loop .inv .0)) (c .before .before .before .before .before .before .before .before .before .before .before .before .turns-to-abstractor .ensures) (is-true _ (c .before .before .before .before .before .before .before .before .before .before .if1 .left)) (c .before .before .before .before .abs-turn .ensures .0)) (is-true _ (c .before .before .if2 .left)))
 
 loop-again : tie.Need-loop-again Inv-loop μ-loop
-loop-again c = rw (c .push .ensures) (going-on (c .before .before .before .before .before .before .before .before .before .before .before .before .before .before .before .before .before .loop .inv .0) (turns-past (now-stated (c .before .before .before .before .before .before .before .before .before .before .before .before .before .before .before .before .before .loop .inv .0)) (c .before .before .before .before .before .before .before .before .before .before .before .before .settle .ensures) (is-true _ (c .before .before .before .before .before .before .before .before .before .before .if1 .left)) (c .before .before .before .before .abs-turn .ensures .0)) (is-true _ (c .before .before .if2 .left)), c .before .before .before .before .abs-turn .ensures .1)
+loop-again c = rw (c .push .ensures) (going-on (c .before .before .before .before .before .before .before .before .before .before .before .before .before .before .before .before .before .loop .inv .0) (turns-past (now-stated (c .before .before .before .before .before .before .before .before .before .before .before .before .before .before .before .before .before .loop .inv .0)) (c .before .before .before .before .before .before .before .before .before .before .before .before .turns-to-abstractor .ensures) (is-true _ (c .before .before .before .before .before .before .before .before .before .before .if1 .left)) (c .before .before .before .before .abs-turn .ensures .0)) (is-true _ (c .before .before .if2 .left)), c .before .before .before .before .abs-turn .ensures .1)
 
 pub copied-spec : {M : Type 1} → statement M
 copied-spec =
@@ -44,7 +44,7 @@ copied-spec =
     Inv-loop
     μ-loop
     loop-holds
-    settle-requires
+    turns-to-abstractor-requires
     returns
     abs-turn-requires
     returns-2

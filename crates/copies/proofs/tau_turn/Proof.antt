@@ -9,19 +9,19 @@ use Rattle.copies.proofs.tau_turn.Tie as tie
 use Rattle.copies.proofs.tau_turn.Reads as reads
 use Rattle.copies.proofs.tau_turn.Lts as lts
 use Rattle.waiting.proofs.slot_at.Reads as slot-at-reads
-use Rattle.copies.proofs.finish.Reads as finish-reads
+use Rattle.copies.proofs.stop_with.Reads as stop-with-reads
 
-finish-requires : tie.Need-finish-requires
-finish-requires c κs = search needs
+stop-with-requires : tie.Need-stop-with-requires
+stop-with-requires c κs = search needs
 
 returns : tie.Need-returns
-returns c = rw (c .finish .ensures) (still (c .before .before .before .before .before .pre .0) (omega arith) (λ R W Q B p z o. tau-never z _ _ (c .before .before .before .before .before .pre .1) (c .before .if1 .taken)))
+returns c = rw (c .stop-with .ensures) (still (c .before .before .before .before .before .pre .0) (omega arith) (λ R W Q B p z o. tau-never z _ _ (c .before .before .before .before .before .pre .1) (c .before .if1 .taken)))
 
-finish-requires-2 : tie.Need-finish-requires-2
-finish-requires-2 c κs = search needs
+stop-with-requires-2 : tie.Need-stop-with-requires-2
+stop-with-requires-2 c κs = search needs
 
 returns-2 : tie.Need-returns-2
-returns-2 c = rw (c .finish2 .ensures) (still (c .before .before .before .before .before .before .before .pre .0) (omega arith) (λ R W Q B p z o. tau-passes z _ _ (c .before .before .before .before .before .before .before .pre .1) (c .before .before .before .if1 .left) (c .before .if2 .taken)))
+returns-2 c = rw (c .stop-with2 .ensures) (still (c .before .before .before .before .before .before .before .pre .0) (omega arith) (λ R W Q B p z o. tau-passes z _ _ (c .before .before .before .before .before .before .before .pre .1) (c .before .before .before .if1 .left) (c .before .if2 .taken)))
 
 sub-slot-at : tie.Need-sub-slot-at
 sub-slot-at c = let z = c .before .before .before .before .before .before .before .pre .0 .at in omega (arith, queue-base (z .waits), c .before .if2 .left)
@@ -29,21 +29,21 @@ sub-slot-at c = let z = c .before .before .before .before .before .before .befor
 slot-at-requires : tie.Need-slot-at-requires
 slot-at-requires c κs = search needs
 
-finish-requires-3 : tie.Need-finish-requires-3
-finish-requires-3 c κs = search needs
+stop-with-requires-3 : tie.Need-stop-with-requires-3
+stop-with-requires-3 c κs = search needs
 
 returns-3 : tie.Need-returns-3
-returns-3 c = rw (c .finish3 .ensures) (still (c .before .before .before .before .before .before .before .before .before .pre .0) (omega arith) (λ R W Q B p z o. tau-waits z _ _ (c .before .before .before .before .before .before .before .before .before .pre .1) (c .before .before .before .before .before .if1 .left) (c .before .before .before .if2 .left) (c .before .slot-at .ensures .0)))
+returns-3 c = rw (c .stop-with3 .ensures) (still (c .before .before .before .before .before .before .before .before .before .pre .0) (omega arith) (λ R W Q B p z o. tau-waits z _ _ (c .before .before .before .before .before .before .before .before .before .pre .1) (c .before .before .before .before .before .if1 .left) (c .before .before .before .if2 .left) (c .before .slot-at .ensures .0)))
 
 pub tau-turn-spec : {M : Type 1} → statement M
 tau-turn-spec =
     tie.close
     (tie.spec
-    finish-requires
+    stop-with-requires
     returns
-    finish-requires-2
+    stop-with-requires-2
     returns-2
     sub-slot-at
     slot-at-requires
-    finish-requires-3
+    stop-with-requires-3
     returns-3)

@@ -9,34 +9,34 @@ use Rattle.copies.proofs.var_turn.Reads as reads
 use Rattle.copies.proofs.var_turn.Lts as lts
 use Rattle.frames.proofs.entry_at_by.Reads as entry-at-by-reads
 use Rattle.copies.proofs.scope_or_fit.Reads as scope-or-fit-reads
-use Rattle.copies.proofs.on.Reads as on-reads
-use Rattle.copies.proofs.view.Reads as view-reads
+use Rattle.copies.proofs.go_on.Reads as go-on-reads
+use Rattle.copies.proofs.seen_index.Reads as seen-index-reads
 
-element-copy-out-view : tie.Need-element-copy-out-view
-element-copy-out-view c = in-text (c .before .before .pre .1 .at)
+element-copy-out-seen-index : tie.Need-element-copy-out-seen-index
+element-copy-out-seen-index c = in-text (c .before .before .pre .1 .at)
 
-view-requires : tie.Need-view-requires
-view-requires c κs = search needs
+seen-index-requires : tie.Need-seen-index-requires
+seen-index-requires c κs = search needs
 
 entry-at-by-requires : tie.Need-entry-at-by-requires
-entry-at-by-requires c κs = let g = c .before .before .before .before .pre in let b = index-bounds (g .1 .at) (g .2) (g .3) (c .view .ensures) in (g .0, record { frame = g .1 .frame; stored = g .1 .at .stored }, b .0, b .1)
+entry-at-by-requires c κs = let g = c .before .before .before .before .pre in let b = index-bounds (g .1 .at) (g .2) (g .3) (c .seen-index .ensures) in (g .0, record { frame = g .1 .frame; stored = g .1 .at .stored }, b .0, b .1)
 
 scope-or-fit-requires : tie.Need-scope-or-fit-requires
-scope-or-fit-requires c κs = let g = c .before .before .before .before .before .pre in (measurable (g .1 .at) (g .2) (g .3) (c .before .view .ensures) (c .entry-at-by .ensures), g .1 .at .stored .few)
+scope-or-fit-requires c κs = let g = c .before .before .before .before .before .pre in (measurable (g .1 .at) (g .2) (g .3) (c .before .seen-index .ensures) (c .entry-at-by .ensures), g .1 .at .stored .few)
 
-on-requires : tie.Need-on-requires
-on-requires c κs = search needs
+go-on-requires : tie.Need-go-on-requires
+go-on-requires c κs = search needs
 
 returns : tie.Need-returns
-returns c = rw (c .on .ensures) (still (c .before .before .before .before .before .before .before .pre .1) (omega arith) (λ R W Q B p z o. var-goes z (c .before .before .before .before .before .before .before .pre .2) (c .before .before .before .before .before .before .before .pre .3) (c .before .before .before .view .ensures) (c .before .before .entry-at-by .ensures) _ (c .before .scope-or-fit .ensures)))
+returns c = rw (c .go-on .ensures) (still (c .before .before .before .before .before .before .before .pre .1) (omega arith) (λ R W Q B p z o. var-goes z (c .before .before .before .before .before .before .before .pre .2) (c .before .before .before .before .before .before .before .pre .3) (c .before .before .before .seen-index .ensures) (c .before .before .entry-at-by .ensures) _ (c .before .scope-or-fit .ensures)))
 
 pub var-turn-spec : {M : Type 1} → statement M
 var-turn-spec =
     tie.close
     (tie.spec
-    element-copy-out-view
-    view-requires
+    element-copy-out-seen-index
+    seen-index-requires
     entry-at-by-requires
     scope-or-fit-requires
-    on-requires
+    go-on-requires
     returns)

@@ -1,12 +1,12 @@
 -- `examine::refusal` meets its contract.
 -- Assumes nothing.
 use mathlib.Core.Path.{refl}
-use Rattle.examine.specs.Inspect.{answerOf}
+use Rattle.examine.specs.Inspect.{termAnswerOf}
 use Rattle.examine.proofs.refusal.Statement.{statement}
 use Rattle.examine.proofs.refusal.Tie as tie
 
 returns : tie.Need-returns
-unfolding answerOf
+unfolding termAnswerOf
 returns c = refl
 
 pub refusal-spec : {M : Type 1} → statement M

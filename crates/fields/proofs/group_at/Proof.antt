@@ -2,7 +2,7 @@
 -- Assumes nothing.
 use mathlib.Core.Path.{subst}
 use denote.Ref.{now}
-use Rattle.fields.specs.Fields.{SpanOf}
+use Rattle.fields.specs.Fields.{GroupParts}
 use Rattle.fields.proofs.Groups.{span-of}
 use borrow.Author.Needs.{needs}
 use Rattle.fields.proofs.group_at.Statement.{statement}
@@ -41,7 +41,7 @@ add-t9 c = search needs
 returns : tie.Need-returns
 returns c =
     let a = c .before .before .before .args in
-    subst (SpanOf (now (a .s)) (a .at)) (cc) (span-of (now (a .s)) (a .at) (c .before .before .before .pre))
+    subst (GroupParts (now (a .s)) (a .at)) (cc) (span-of (now (a .s)) (a .at) (c .before .before .before .pre))
 
 pub group-at-spec : {M : Type 1} → statement M
 group-at-spec =

@@ -19,7 +19,7 @@ use Rattle.walk.proofs.term.Kinds as term-kinds
 use Rattle.walk.proofs.+inside+term.Lts-term as term-lts
 use Rattle.waiting.proofs.fits.Reads as fits-reads
 use Rattle.walk.proofs.halt.Reads as halt-reads
-use Rattle.walk.proofs.last.Reads as last-reads
+use Rattle.walk.proofs.own_end.Reads as own-end-reads
 use Rattle.walk.proofs.pass.Reads as pass-reads
 use Rattle.waiting.proofs.wide16.Reads as wide16-reads
 use Rattle.walk.proofs.+inside+term.{statement}
@@ -68,8 +68,8 @@ term-loop-holds : (t : ℕ) → term-lts.Need-loop-holds (
   inside.Post,
   pass-reads.Asked,
   pass-reads.Learnt,
-  last-reads.Asked,
-  last-reads.Learnt,
+  own-end-reads.Asked,
+  own-end-reads.Learnt,
 ) (term-at t) term.Post term-Inv-loop term-μ-loop
 term-loop-holds t c = (record { now = c .before .before .pre .1 .2; later = omega arith; rest = λ w′ ws′ ys′ r x. x }, c .before .before .pre .1 .3)
 
@@ -84,8 +84,8 @@ term-shared-slice-read-if1 : (t : ℕ) → term-lts.Need-shared-slice-read-if1 (
   inside.Post,
   pass-reads.Asked,
   pass-reads.Learnt,
-  last-reads.Asked,
-  last-reads.Learnt,
+  own-end-reads.Asked,
+  own-end-reads.Learnt,
 ) (term-at t) term.Post term-Inv-loop term-μ-loop
 term-shared-slice-read-if1 t c = text-in (c .before .loop .inv .0 .now .here .stands)
 
@@ -100,8 +100,8 @@ term-mul-wide16 : (t : ℕ) → term-lts.Need-mul-wide16 (
   inside.Post,
   pass-reads.Asked,
   pass-reads.Learnt,
-  last-reads.Asked,
-  last-reads.Learnt,
+  own-end-reads.Asked,
+  own-end-reads.Learnt,
 ) (term-at t) term.Post term-Inv-loop term-μ-loop
 term-mul-wide16 t c = omega (arith, at-bound (c .before .before .before .before .loop .inv .0 .now))
 
@@ -116,8 +116,8 @@ term-element-copy-out-wide16 : (t : ℕ) → term-lts.Need-element-copy-out-wide
   inside.Post,
   pass-reads.Asked,
   pass-reads.Learnt,
-  last-reads.Asked,
-  last-reads.Learnt,
+  own-end-reads.Asked,
+  own-end-reads.Learnt,
 ) (term-at t) term.Post term-Inv-loop term-μ-loop
 term-element-copy-out-wide16 t c = omega (arith, at-bound (c .before .before .before .before .loop .inv .0 .now))
 
@@ -132,8 +132,8 @@ term-wide16-requires : (t : ℕ) → term-lts.Need-wide16-requires (
   inside.Post,
   pass-reads.Asked,
   pass-reads.Learnt,
-  last-reads.Asked,
-  last-reads.Learnt,
+  own-end-reads.Asked,
+  own-end-reads.Learnt,
 ) (term-at t) term.Post term-Inv-loop term-μ-loop
 term-wide16-requires t c κs = search needs
 
@@ -148,8 +148,8 @@ term-fits-requires : (t : ℕ) → term-lts.Need-fits-requires (
   inside.Post,
   pass-reads.Asked,
   pass-reads.Learnt,
-  last-reads.Asked,
-  last-reads.Learnt,
+  own-end-reads.Asked,
+  own-end-reads.Learnt,
 ) (term-at t) term.Post term-Inv-loop term-μ-loop
 term-fits-requires t c κs = let z = c .before .before .before .before .before .before .loop .inv .0 .now .here in (base-bound (c .before .before .before .before .before .before .loop .inv .0 .now), omega (arith, at-bound (c .before .before .before .before .before .before .loop .inv .0 .now), z .tops), omega arith, omega (arith, z .stored .inside), omega (arith, z .stored .few), c .wide16 .ensures .1, omega arith)
 
@@ -164,8 +164,8 @@ term-halt-requires : (t : ℕ) → term-lts.Need-halt-requires (
   inside.Post,
   pass-reads.Asked,
   pass-reads.Learnt,
-  last-reads.Asked,
-  last-reads.Learnt,
+  own-end-reads.Asked,
+  own-end-reads.Learnt,
 ) (term-at t) term.Post term-Inv-loop term-μ-loop
 term-halt-requires t c κs = search needs
 
@@ -180,8 +180,8 @@ term-returns : (t : ℕ) → term-lts.Need-returns (
   inside.Post,
   pass-reads.Asked,
   pass-reads.Learnt,
-  last-reads.Asked,
-  last-reads.Learnt,
+  own-end-reads.Asked,
+  own-end-reads.Learnt,
 ) (term-at t) term.Post term-Inv-loop term-μ-loop
 term-returns t c = (c .before .before .before .before .before .before .before .before .before .loop .inv .0 .rest _ _ _ _ (rw (c .halt .ensures) (checks-outgrown (c .before .before .fits2 .ensures) (known-size (c .before .before .before .before .before .before .before .before .before .before .before .before .pre .1 .1) (c .before .before .before .wide16 .ensures .0)) (is-false _ (c .before .if2 .taken)) (c .before .before .before .before .before .before .before .before .before .loop .inv .0 .now))), c .before .before .before .before .before .before .before .before .before .loop .inv .1)
 
@@ -196,8 +196,8 @@ term-add-inside : (t : ℕ) → term-lts.Need-add-inside (
   inside.Post,
   pass-reads.Asked,
   pass-reads.Learnt,
-  last-reads.Asked,
-  last-reads.Learnt,
+  own-end-reads.Asked,
+  own-end-reads.Learnt,
 ) (term-at t) term.Post term-Inv-loop term-μ-loop
 term-add-inside t c = omega (arith, at-bound (c .before .before .before .before .before .before .before .before .before .before .before .before .before .loop .inv .0 .now))
 
@@ -212,8 +212,8 @@ term-inside-requires : (t : ℕ) → term-lts.Need-inside-requires (
   inside.Post,
   pass-reads.Asked,
   pass-reads.Learnt,
-  last-reads.Asked,
-  last-reads.Learnt,
+  own-end-reads.Asked,
+  own-end-reads.Learnt,
 ) (term-at t) term.Post term-Inv-loop term-μ-loop
 term-inside-requires t c κs = (omega (arith, falls-on (c .before .before .before .before .before .before .before .before .before .before .before .before .before .before .before .before .args .t .now) _ _ (c .before .before .before .before .before .before .before .before .before .before .before .before .before .loop .inv .0 .later) (text-in (c .before .before .before .before .before .before .before .before .before .before .before .before .before .before .before .before .pre .1 .2 .here .stands)), c .before .before .before .before .before .before .before .before .before .before .before .before .before .before .before .before .pre .0), (c .before .before .before .before .before .before .before .before .before .before .before .before .before .before .before .before .pre .1 .0, c .before .before .before .before .before .before .before .before .before .before .before .before .before .before .before .before .pre .1 .1, inside-stated (c .before .before .before .before .before .before .before .before .before .before .before .if1 .taken) (c .before .before .before .before .before .before .before .before .before .before .before .before .before .loop .inv .0 .now), c .before .before .before .before .before .before .before .before .before .before .before .before .before .loop .inv .1))
 
@@ -228,8 +228,8 @@ term-returns-2 : (t : ℕ) → term-lts.Need-returns-2 (
   inside.Post,
   pass-reads.Asked,
   pass-reads.Learnt,
-  last-reads.Asked,
-  last-reads.Learnt,
+  own-end-reads.Asked,
+  own-end-reads.Learnt,
 ) (term-at t) term.Post term-Inv-loop term-μ-loop
 term-returns-2 t c = (c .before .before .before .before .before .before .before .before .before .before .before .before .before .before .before .before .loop .inv .0 .rest _ _ _ _ (inside-stops (c .before .before .before .before .before .before .before .before .before .before .before .before .before .before .if1 .taken) (c .before .before .before .before .before .before .before .before .before .fits2 .ensures) (known-size (c .before .before .before .before .before .before .before .before .before .before .before .before .before .before .before .before .before .before .before .pre .1 .1) (c .before .before .before .before .before .before .before .before .before .before .wide16 .ensures .0)) (is-true _ (c .before .before .before .before .before .before .before .before .if2 .left)) (c .before .before .inside .ensures .0) (c .before .before .before .before .before .before .before .before .before .before .before .before .before .before .before .before .loop .inv .0 .now) (c .if3 .taken)), c .before .before .inside .ensures .1)
 
@@ -244,8 +244,8 @@ term-pass-requires : (t : ℕ) → term-lts.Need-pass-requires (
   inside.Post,
   pass-reads.Asked,
   pass-reads.Learnt,
-  last-reads.Asked,
-  last-reads.Learnt,
+  own-end-reads.Asked,
+  own-end-reads.Learnt,
 ) (term-at t) term.Post term-Inv-loop term-μ-loop
 term-pass-requires t c κs = (pass-ready (c .before .before .before .before .before .before .before .before .before .before .before .before .before .before .before .before .before .before .before .if1 .taken) (c .before .before .before .before .before .before .before .before .before .before .before .before .before .before .fits2 .ensures) (known-size (c .before .before .before .before .before .before .before .before .before .before .before .before .before .before .before .before .before .before .before .before .before .before .before .before .pre .1 .1) (c .before .before .before .before .before .before .before .before .before .before .before .before .before .before .before .wide16 .ensures .0)) (is-true _ (c .before .before .before .before .before .before .before .before .before .before .before .before .before .if2 .left)) (c .before .before .before .before .before .before .before .inside .ensures .0) (c .before .before .before .before .before .if3 .left) (c .before .before .before .before .before .before .before .before .before .before .before .before .before .before .before .before .before .before .before .before .before .loop .inv .0 .now), c .before .before .before .before .before .before .before .before .before .before .before .before .before .before .before .before .before .before .before .before .before .before .before .before .pre .1 .1, c .before .before .before .before .before .before .before .before .before .before .before .before .before .before .before .before .before .before .before .if1 .taken, c .before .before .before .before .before .if3 .left, c .before .before .before .before .before .before .before .inside .ensures .1)
 
@@ -260,8 +260,8 @@ term-returns-3 : (t : ℕ) → term-lts.Need-returns-3 (
   inside.Post,
   pass-reads.Asked,
   pass-reads.Learnt,
-  last-reads.Asked,
-  last-reads.Learnt,
+  own-end-reads.Asked,
+  own-end-reads.Learnt,
 ) (term-at t) term.Post term-Inv-loop term-μ-loop
 term-returns-3 t c = (c .before .before .before .before .before .before .before .before .before .before .before .before .before .before .before .before .before .before .before .before .before .before .before .before .before .loop .inv .0 .rest _ _ _ _ (pass-stop-checks (c .before .before .before .before .before .before .before .before .before .before .before .before .before .before .before .before .before .before .before .before .before .before .before .if1 .taken) (c .before .before .before .before .before .before .before .before .before .before .before .before .before .before .before .before .before .before .fits2 .ensures) (known-size (c .before .before .before .before .before .before .before .before .before .before .before .before .before .before .before .before .before .before .before .before .before .before .before .before .before .before .before .before .pre .1 .1) (c .before .before .before .before .before .before .before .before .before .before .before .before .before .before .before .before .before .before .before .wide16 .ensures .0)) (is-true _ (c .before .before .before .before .before .before .before .before .before .before .before .before .before .before .before .before .before .if2 .left)) (c .before .before .before .before .before .before .before .before .before .before .before .inside .ensures .0) (c .before .before .before .before .before .before .before .before .before .if3 .left) (c .before .before .before .pass .ensures .0) (c .before .before .before .before .before .before .before .before .before .before .before .before .before .before .before .before .before .before .before .before .before .before .before .before .before .loop .inv .0 .now) (c .if4 .taken)), c .before .before .before .pass .ensures .1)
 
@@ -276,8 +276,8 @@ term-loop-less : (t : ℕ) → term-lts.Need-loop-less (
   inside.Post,
   pass-reads.Asked,
   pass-reads.Learnt,
-  last-reads.Asked,
-  last-reads.Learnt,
+  own-end-reads.Asked,
+  own-end-reads.Learnt,
 ) (term-at t) term.Post term-Inv-loop term-μ-loop
 term-loop-less t c = omega (arith, at-bound (c .before .before .before .before .before .before .before .before .before .before .before .before .before .before .before .before .before .before .before .before .before .before .before .before .before .before .loop .inv .0 .now), c .before .before .before .before .pass .ensures .0 .further)
 
@@ -292,12 +292,12 @@ term-loop-again : (t : ℕ) → term-lts.Need-loop-again (
   inside.Post,
   pass-reads.Asked,
   pass-reads.Learnt,
-  last-reads.Asked,
-  last-reads.Learnt,
+  own-end-reads.Asked,
+  own-end-reads.Learnt,
 ) (term-at t) term.Post term-Inv-loop term-μ-loop
 term-loop-again t c = (record { now = next-stated (c .before .before .before .before .before .before .before .before .before .before .before .before .before .before .before .before .before .before .before .before .before .before .before .before .if1 .taken) (c .before .before .before .before .before .before .before .before .before .before .before .before .before .before .before .before .before .before .before .fits2 .ensures) (known-size (c .before .before .before .before .before .before .before .before .before .before .before .before .before .before .before .before .before .before .before .before .before .before .before .before .before .before .before .before .before .pre .1 .1) (c .before .before .before .before .before .before .before .before .before .before .before .before .before .before .before .before .before .before .before .before .wide16 .ensures .0)) (is-true _ (c .before .before .before .before .before .before .before .before .before .before .before .before .before .before .before .before .before .before .if2 .left)) (c .before .before .before .before .before .before .before .before .before .before .before .before .inside .ensures .0) (c .before .before .before .before .before .before .before .before .before .before .if3 .left) (c .before .before .before .before .pass .ensures .0) (c .before .before .before .before .before .before .before .before .before .before .before .before .before .before .before .before .before .before .before .before .before .before .before .before .before .before .loop .inv .0 .now) (c .before .if4 .left); later = omega (arith, c .before .before .before .before .before .before .before .before .before .before .before .before .before .before .before .before .before .before .before .before .before .before .before .before .before .before .loop .inv .0 .later, c .before .before .before .before .pass .ensures .0 .further); rest = λ w′ ws′ ys′ r x. c .before .before .before .before .before .before .before .before .before .before .before .before .before .before .before .before .before .before .before .before .before .before .before .before .before .before .loop .inv .0 .rest w′ ws′ ys′ r (rest-checks (c .before .before .before .before .before .before .before .before .before .before .before .before .before .before .before .before .before .before .before .before .before .before .before .before .if1 .taken) (c .before .before .before .before .before .before .before .before .before .before .before .before .before .before .before .before .before .before .before .fits2 .ensures) (known-size (c .before .before .before .before .before .before .before .before .before .before .before .before .before .before .before .before .before .before .before .before .before .before .before .before .before .before .before .before .before .pre .1 .1) (c .before .before .before .before .before .before .before .before .before .before .before .before .before .before .before .before .before .before .before .before .wide16 .ensures .0)) (is-true _ (c .before .before .before .before .before .before .before .before .before .before .before .before .before .before .before .before .before .before .if2 .left)) (c .before .before .before .before .before .before .before .before .before .before .before .before .inside .ensures .0) (c .before .before .before .before .before .before .before .before .before .before .if3 .left) (c .before .before .before .before .pass .ensures .0) (c .before .before .before .before .before .before .before .before .before .before .before .before .before .before .before .before .before .before .before .before .before .before .before .before .before .before .loop .inv .0 .now) (c .before .if4 .left) x) }, c .before .before .before .before .pass .ensures .1)
 
-term-last-requires : (t : ℕ) → term-lts.Need-last-requires (
+term-last-requires : (t : ℕ) → term-lts.Need-own-end-requires (
   wide16-reads.Asked,
   wide16-reads.Learnt,
   fits-reads.Asked,
@@ -308,8 +308,8 @@ term-last-requires : (t : ℕ) → term-lts.Need-last-requires (
   inside.Post,
   pass-reads.Asked,
   pass-reads.Learnt,
-  last-reads.Asked,
-  last-reads.Learnt,
+  own-end-reads.Asked,
+  own-end-reads.Learnt,
 ) (term-at t) term.Post term-Inv-loop term-μ-loop
 term-last-requires t c κs = (c .before .before .before .before .before .before .before .before .before .before .before .before .pre .1 .0, (c .before .before .before .before .before .before .before .before .before .loop .inv .0 .now), c .before .before .before .before .before .before .before .if1 .left, c .before .before .before .before .before .before .before .before .before .loop .inv .1)
 
@@ -324,10 +324,10 @@ term-returns-4 : (t : ℕ) → term-lts.Need-returns-4 (
   inside.Post,
   pass-reads.Asked,
   pass-reads.Learnt,
-  last-reads.Asked,
-  last-reads.Learnt,
+  own-end-reads.Asked,
+  own-end-reads.Learnt,
 ) (term-at t) term.Post term-Inv-loop term-μ-loop
-term-returns-4 t c = (c .before .before .before .before .before .before .before .before .before .before .loop .inv .0 .rest _ _ _ _ (c .last .ensures .0), c .last .ensures .1)
+term-returns-4 t c = (c .before .before .before .before .before .before .before .before .before .before .loop .inv .0 .rest _ _ _ _ (c .own-end .ensures .0), c .own-end .ensures .1)
 
 pub +inside+term-spec : {M : Type 1} → statement M
 +inside+term-spec =
@@ -351,8 +351,8 @@ pub +inside+term-spec : {M : Type 1} → statement M
       inside.Post,
       pass-reads.Asked,
       pass-reads.Learnt,
-      last-reads.Asked,
-      last-reads.Learnt,
+      own-end-reads.Asked,
+      own-end-reads.Learnt,
     )
     (term-at t)
     term.Post

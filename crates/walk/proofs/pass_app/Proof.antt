@@ -9,19 +9,19 @@ use Rattle.walk.proofs.pass_app.Statement.{statement}
 use Rattle.walk.proofs.pass_app.Tie as tie
 use Rattle.walk.proofs.pass_app.Reads as reads
 use Rattle.walk.proofs.pass_app.Lts as lts
-use Rattle.waiting.proofs.figures_of.Reads as figures-of-reads
+use Rattle.waiting.proofs.waiting_extent.Reads as waiting-extent-reads
 use Rattle.indices.proofs.larger.Reads as larger-reads
-use Rattle.waiting.proofs.note.Reads as note-reads
+use Rattle.waiting.proofs.store_slot.Reads as store-slot-reads
 use Rattle.waiting.proofs.wide16.Reads as wide16-reads
 
-figures-of-requires : tie.Need-figures-of-requires
-figures-of-requires c κs = (own-base (c .before .before .before .pre .1) (c .before .before .before .pre .0 .here), omega (arith, own-bound (c .before .before .before .pre .1) (c .before .before .before .pre .0 .here), c .before .before .before .pre .0 .here .tops))
+waiting-extent-requires : tie.Need-waiting-extent-requires
+waiting-extent-requires c κs = (own-base (c .before .before .before .pre .1) (c .before .before .before .pre .0 .here), omega (arith, own-bound (c .before .before .before .pre .1) (c .before .before .before .pre .0 .here), c .before .before .before .pre .0 .here .tops))
 
 sub-t16 : tie.Need-sub-t16
 sub-t16 c = omega (arith, app-bounds (c .before .before .before .before .pre .1) (c .before .before .before .before .pre .0 .here) (c .before .before .before .before .pre .2) .0)
 
 add-t17 : tie.Need-add-t17
-add-t17 c = omega (arith, app-bounds (c .before .before .before .before .before .pre .1) (c .before .before .before .before .before .pre .0 .here) (c .before .before .before .before .before .pre .2) .1, c .before .figures-of .ensures .size-bound)
+add-t17 c = omega (arith, app-bounds (c .before .before .before .before .before .pre .1) (c .before .before .before .before .before .pre .0 .here) (c .before .before .before .before .before .pre .2) .1, c .before .waiting-extent .ensures .size-bound)
 
 add-wide16 : tie.Need-add-wide16
 add-wide16 c = omega (arith, app-bounds (c .before .before .before .before .before .pre .1) (c .before .before .before .before .before .pre .0 .here) (c .before .before .before .before .before .pre .2) .0, app-bounds (c .before .before .before .before .before .pre .1) (c .before .before .before .before .before .pre .0 .here) (c .before .before .before .before .before .pre .2) .1)
@@ -38,20 +38,20 @@ wide16-requires c κs = search needs
 larger-requires : tie.Need-larger-requires
 larger-requires c κs = search needs
 
-note-requires : tie.Need-note-requires
-note-requires c κs = (omega (arith, own-bound (c .before .before .before .before .before .before .before .before .before .pre .1) (c .before .before .before .before .before .before .before .before .before .pre .0 .here), c .before .before .before .before .before .before .before .before .before .pre .0 .here .tops), c .before .before .before .before .before .before .before .before .before .pre .0 .here .wlong, app-small (c .before .before .before .before .before .before .before .before .before .pre .1) (c .before .before .before .before .before .before .before .before .before .pre .0 .here) (c .before .before .before .before .before .before .before .before .before .pre .2) (c .before .before .before .before .before .before .before .before .before .pre .0 .room) (c .before .before .before .before .before .figures-of .ensures) (c .before .before .wide16 .ensures .0) (c .before .larger .ensures))
+store-slot-requires : tie.Need-store-slot-requires
+store-slot-requires c κs = (omega (arith, own-bound (c .before .before .before .before .before .before .before .before .before .pre .1) (c .before .before .before .before .before .before .before .before .before .pre .0 .here), c .before .before .before .before .before .before .before .before .before .pre .0 .here .tops), c .before .before .before .before .before .before .before .before .before .pre .0 .here .wlong, app-small (c .before .before .before .before .before .before .before .before .before .pre .1) (c .before .before .before .before .before .before .before .before .before .pre .0 .here) (c .before .before .before .before .before .before .before .before .before .pre .2) (c .before .before .before .before .before .before .before .before .before .pre .0 .room) (c .before .before .before .before .before .waiting-extent .ensures) (c .before .before .wide16 .ensures .0) (c .before .larger .ensures))
 
 add-t16 : tie.Need-add-t16
 add-t16 c = search needs
 
 returns : tie.Need-returns
-returns c = app-ruled (c .before .before .before .before .before .before .before .before .before .before .pre .1) (c .before .before .before .before .before .before .before .before .before .before .pre .0) (c .before .before .before .before .before .before .before .before .before .before .pre .2) (c .before .before .before .before .before .before .figures-of .ensures) _ (c .before .before .before .before .before .before .before .before .before .before .pre .3) refl refl (c .before .before .before .wide16 .ensures .0) (c .before .before .larger .ensures) (c .note .ensures)
+returns c = app-ruled (c .before .before .before .before .before .before .before .before .before .before .pre .1) (c .before .before .before .before .before .before .before .before .before .before .pre .0) (c .before .before .before .before .before .before .before .before .before .before .pre .2) (c .before .before .before .before .before .before .waiting-extent .ensures) _ (c .before .before .before .before .before .before .before .before .before .before .pre .3) refl refl (c .before .before .before .wide16 .ensures .0) (c .before .before .larger .ensures) (c .store-slot .ensures)
 
 pub pass-app-spec : {M : Type 1} → statement M
 pass-app-spec =
     tie.close
     (tie.spec
-    figures-of-requires
+    waiting-extent-requires
     sub-t16
     add-t17
     add-wide16
@@ -59,6 +59,6 @@ pass-app-spec =
     element-copy-out-wide16
     wide16-requires
     larger-requires
-    note-requires
+    store-slot-requires
     add-t16
     returns)

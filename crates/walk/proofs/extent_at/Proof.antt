@@ -1,14 +1,14 @@
--- `walk::figure` meets its contract.
+-- `walk::extent_at` meets its contract.
 -- Assumes nothing.
 use native.Mathlib.Omega.{arith}
 use mathlib.Core.Path.{refl}
 use Rattle.waiting.proofs.Texts.{text-in}
-use Rattle.walk.proofs.Whole.{leaf-figure, node-bounds, app-figure, abs-figure}
+use Rattle.walk.proofs.Whole.{leaf-extent, node-bounds, app-extent, abs-extent}
 use borrow.Author.Needs.{needs}
-use Rattle.walk.proofs.figure.Statement.{statement}
-use Rattle.walk.proofs.figure.Tie as tie
-use Rattle.walk.proofs.figure.Reads as reads
-use Rattle.walk.proofs.figure.Lts as lts
+use Rattle.walk.proofs.extent_at.Statement.{statement}
+use Rattle.walk.proofs.extent_at.Tie as tie
+use Rattle.walk.proofs.extent_at.Reads as reads
+use Rattle.walk.proofs.extent_at.Lts as lts
 use Rattle.indices.proofs.larger.Reads as larger-reads
 use Rattle.waiting.proofs.wide16.Reads as wide16-reads
 
@@ -16,7 +16,7 @@ shared-slice-read-b : tie.Need-shared-slice-read-b
 shared-slice-read-b c = text-in (c .before .before .pre .1 .stands)
 
 returns : tie.Need-returns
-returns c = leaf-figure (c .before .before .before .pre .0) (c .if1 .taken)
+returns c = leaf-extent (c .before .before .before .pre .0) (c .if1 .taken)
 
 add-wide16 : tie.Need-add-wide16
 add-wide16 c = omega (arith, node-bounds (c .before .before .before .pre .0) (c .before .before .before .pre .1) (c .if1 .left) .0)
@@ -76,7 +76,7 @@ larger-requires : tie.Need-larger-requires
 larger-requires c κs = search needs
 
 returns-2 : tie.Need-returns-2
-returns-2 c = app-figure (c .before .before .before .before .before .before .before .before .before .before .before .before .before .pre .0) (c .before .before .before .before .before .before .before .before .wide16 .ensures .0) refl (c .before .before .before .before .before .before .wide162 .ensures .0) (c .before .before .before .before .wide163 .ensures .0) (c .before .before .wide164 .ensures .0) (c .before .if2 .taken) (c .larger .ensures)
+returns-2 c = app-extent (c .before .before .before .before .before .before .before .before .before .before .before .before .before .pre .0) (c .before .before .before .before .before .before .before .before .wide16 .ensures .0) refl (c .before .before .before .before .before .before .wide162 .ensures .0) (c .before .before .before .before .wide163 .ensures .0) (c .before .before .wide164 .ensures .0) (c .before .if2 .taken) (c .larger .ensures)
 
 add-t15 : tie.Need-add-t15
 add-t15 c = search needs
@@ -91,10 +91,10 @@ larger-requires-2 : tie.Need-larger-requires-2
 larger-requires-2 c κs = search needs
 
 returns-3 : tie.Need-returns-3
-returns-3 c = abs-figure (c .before .before .before .before .before .before .before .before .before .before .before .before .before .pre .0) (c .before .before .before .before .before .before .before .before .wide16 .ensures .0) refl (c .before .before .before .before .before .before .wide162 .ensures .0) (c .before .before .before .before .wide163 .ensures .0) (c .before .before .wide164 .ensures .0) (c .before .before .before .before .before .before .before .before .before .before .if1 .left) (c .before .if2 .left) (c .larger2 .ensures)
+returns-3 c = abs-extent (c .before .before .before .before .before .before .before .before .before .before .before .before .before .pre .0) (c .before .before .before .before .before .before .before .before .wide16 .ensures .0) refl (c .before .before .before .before .before .before .wide162 .ensures .0) (c .before .before .before .before .wide163 .ensures .0) (c .before .before .wide164 .ensures .0) (c .before .before .before .before .before .before .before .before .before .before .if1 .left) (c .before .if2 .left) (c .larger2 .ensures)
 
-pub figure-spec : {M : Type 1} → statement M
-figure-spec =
+pub extent-at-spec : {M : Type 1} → statement M
+extent-at-spec =
     tie.close
     (tie.spec
     shared-slice-read-b

@@ -1,14 +1,14 @@
--- `copies::view` meets its contract.
+-- `copies::seen_index` meets its contract.
 -- Assumes nothing.
 use Prim.Native.Nat.{_+_}
 use native.Mathlib.Omega.{arith}
 use mathlib.Core.Path.{_≡_, _∙_, sym, ap}
 use Rattle.calculus.proofs.Lift.{index-low, index-high}
 use borrow.Author.Needs.{needs}
-use Rattle.copies.proofs.view.Statement.{statement}
-use Rattle.copies.proofs.view.Tie as tie
-use Rattle.copies.proofs.view.Reads as reads
-use Rattle.copies.proofs.view.Lts as lts
+use Rattle.copies.proofs.seen_index.Statement.{statement}
+use Rattle.copies.proofs.seen_index.Tie as tie
+use Rattle.copies.proofs.seen_index.Reads as reads
+use Rattle.copies.proofs.seen_index.Lts as lts
 use Rattle.copies.proofs.wide.Reads as wide-reads
 
 wide-requires : tie.Need-wide-requires
@@ -23,5 +23,5 @@ add-result c = search needs
 returns-2 : tie.Need-returns-2
 returns-2 c = let h = c .before .wide .ensures in rw h (sym (index-high _ _ _ (rw h at (c .if1 .left))))
 
-pub view-spec : {M : Type 1} → statement M
-view-spec = tie.close (tie.spec wide-requires returns add-result returns-2)
+pub seen-index-spec : {M : Type 1} → statement M
+seen-index-spec = tie.close (tie.spec wide-requires returns add-result returns-2)

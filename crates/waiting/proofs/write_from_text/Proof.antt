@@ -1,14 +1,14 @@
--- `waiting::put_own` meets its contract.
+-- `waiting::write_from_text` meets its contract.
 -- Assumes nothing.
 use native.Mathlib.Omega.{arith}
 use Rattle.code.proofs.Parts.{stands-start, stands-end}
 use lib.ListN.{length-set}
 use Rattle.waiting.proofs.Bytes.{whole, above-asked, lift-asked, puts}
 use borrow.Author.Needs.{needs}
-use Rattle.waiting.proofs.put_own.Statement.{statement}
-use Rattle.waiting.proofs.put_own.Tie as tie
-use Rattle.waiting.proofs.put_own.Reads as reads
-use Rattle.waiting.proofs.put_own.Lts as lts
+use Rattle.waiting.proofs.write_from_text.Statement.{statement}
+use Rattle.waiting.proofs.write_from_text.Tie as tie
+use Rattle.waiting.proofs.write_from_text.Reads as reads
+use Rattle.waiting.proofs.write_from_text.Lts as lts
 use Rattle.indices.proofs.lift_above.Reads as lift-above-reads
 use Rattle.indices.proofs.lift_in_place.Reads as lift-in-place-reads
 use Rattle.waiting.proofs.copy_from.Reads as copy-from-reads
@@ -49,8 +49,8 @@ lift-in-place-requires c κs = lift-asked _ (c .before .before .before .before .
 returns : tie.Need-returns
 returns c = puts _ (c .before .before .before .before .before .before .before .pre .1) (c .before .before .before .before .copy-from .ensures) (c .before .before .lift-above .ensures) (c .lift-in-place .ensures)
 
-pub put-own-spec : {M : Type 1} → statement M
-put-own-spec =
+pub write-from-text-spec : {M : Type 1} → statement M
+write-from-text-spec =
     tie.close
     (tie.spec
     sub-size

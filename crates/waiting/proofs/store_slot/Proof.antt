@@ -1,11 +1,11 @@
--- `waiting::note` meets its contract.
+-- `waiting::store_slot` meets its contract.
 -- Assumes nothing.
 use Rattle.waiting.proofs.Bytes.{noted}
 use borrow.Author.Needs.{needs}
-use Rattle.waiting.proofs.note.Statement.{statement}
-use Rattle.waiting.proofs.note.Tie as tie
-use Rattle.waiting.proofs.note.Reads as reads
-use Rattle.waiting.proofs.note.Lts as lts
+use Rattle.waiting.proofs.store_slot.Statement.{statement}
+use Rattle.waiting.proofs.store_slot.Tie as tie
+use Rattle.waiting.proofs.store_slot.Reads as reads
+use Rattle.waiting.proofs.store_slot.Lts as lts
 
 cast-q : tie.Need-cast-q
 cast-q c = search needs
@@ -112,8 +112,8 @@ element-write-q-7 c = search needs
 returns : tie.Need-returns
 returns c = noted _ _ _ (c .before .before .before .before .before .before .before .pre .0) (c .before .before .before .before .before .before .before .pre .1)
 
-pub note-spec : {M : Type 1} → statement M
-note-spec =
+pub store-slot-spec : {M : Type 1} → statement M
+store-slot-spec =
     tie.close
     (tie.spec
     cast-q

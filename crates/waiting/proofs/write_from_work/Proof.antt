@@ -1,13 +1,13 @@
--- `waiting::put_seen` meets its contract.
+-- `waiting::write_from_work` meets its contract.
 -- Assumes nothing.
 use native.Mathlib.Omega.{arith}
 use Rattle.code.proofs.Parts.{stands-start}
 use Rattle.waiting.proofs.Bytes.{above-asked, lift-asked, puts, moved-mark}
 use borrow.Author.Needs.{needs}
-use Rattle.waiting.proofs.put_seen.Statement.{statement}
-use Rattle.waiting.proofs.put_seen.Tie as tie
-use Rattle.waiting.proofs.put_seen.Reads as reads
-use Rattle.waiting.proofs.put_seen.Lts as lts
+use Rattle.waiting.proofs.write_from_work.Statement.{statement}
+use Rattle.waiting.proofs.write_from_work.Tie as tie
+use Rattle.waiting.proofs.write_from_work.Reads as reads
+use Rattle.waiting.proofs.write_from_work.Lts as lts
 use Rattle.indices.proofs.lift_above.Reads as lift-above-reads
 use Rattle.indices.proofs.lift_in_place.Reads as lift-in-place-reads
 use Rattle.waiting.proofs.copy_in.Reads as copy-in-reads
@@ -48,8 +48,8 @@ lift-in-place-requires c κs = let x = c .before .before .before .before .before
 returns : tie.Need-returns
 returns c = let x = c .before .before .before .before .before .before .pre .2 in puts _ x (moved-mark (c .before .before .before .before .before .before .args .work .now) (c .before .before .before .before .before .before .args .to) (c .before .before .before .before .before .before .args .mark) (omega (arith, stands-start (x .stands), c .before .before .before .before .before .before .pre .0)) (c .before .before .before .before .copy-in .ensures)) (c .before .before .lift-above .ensures) (c .lift-in-place .ensures)
 
-pub put-seen-spec : {M : Type 1} → statement M
-put-seen-spec =
+pub write-from-work-spec : {M : Type 1} → statement M
+write-from-work-spec =
     tie.close
     (tie.spec
     sub-size

@@ -1,10 +1,10 @@
--- `copies::near_turn` meets its contract.
+-- `copies::turn_in_frame` meets its contract.
 -- Assumes nothing.
 use native.Mathlib.Omega.{arith}
 use Rattle.copies.proofs.Copy.{in-text}
 use borrow.Author.Needs.{needs}
-use Rattle.copies.proofs.near_turn.Statement.{statement}
-use Rattle.copies.proofs.near_turn.Tie as tie
+use Rattle.copies.proofs.turn_in_frame.Statement.{statement}
+use Rattle.copies.proofs.turn_in_frame.Tie as tie
 
 element-copy-out-b : tie.Need-element-copy-out-b
 element-copy-out-b c = in-text (c .before .before .pre .1 .at)
@@ -27,8 +27,8 @@ app-turn-requires c κs = (c .before .before .before .before .before .before .pr
 returns-3 : tie.Need-returns-3
 returns-3 c = search needs
 
-pub near-turn-spec : {M : Type 1} → statement M
-near-turn-spec =
+pub turn-in-frame-spec : {M : Type 1} → statement M
+turn-in-frame-spec =
     tie.close
     (tie.spec
     element-copy-out-b

@@ -1,14 +1,14 @@
--- `walk::last` meets its contract.
+-- `walk::own_end` meets its contract.
 -- Assumes nothing.
 use native.Mathlib.Omega.{arith}
 use Rattle.waiting.proofs.Texts.{text-in}
 use Rattle.copies.proofs.Loop.{is-false, is-true}
 use Rattle.walk.proofs.Walk.{at-bound, base-bound, own-ready, checks-outgrown, tau-passes, tau-waits, ends-checks, one-symbol}
 use borrow.Author.Needs.{needs}
-use Rattle.walk.proofs.last.Statement.{statement}
-use Rattle.walk.proofs.last.Tie as tie
-use Rattle.walk.proofs.last.Reads as reads
-use Rattle.walk.proofs.last.Lts as lts
+use Rattle.walk.proofs.own_end.Statement.{statement}
+use Rattle.walk.proofs.own_end.Tie as tie
+use Rattle.walk.proofs.own_end.Reads as reads
+use Rattle.walk.proofs.own_end.Lts as lts
 use Rattle.waiting.proofs.fits.Reads as fits-reads
 use Rattle.walk.proofs.halt.Reads as halt-reads
 use Rattle.waiting.proofs.slot_at.Reads as slot-at-reads
@@ -50,8 +50,8 @@ halt-requires-3 c κs = search needs
 returns-4 : tie.Need-returns-4
 returns-4 c = (rw (c .halt3 .ensures) (tau-waits (c .before .before .before .if2 .left) (own-ready (c .before .before .before .before .before .before .fits2 .ensures) (one-symbol (c .before .before .before .before .before .before .before .before .before .before .pre .2)) (is-true _ (c .before .before .before .before .before .if1 .left)) (c .before .before .before .before .before .before .before .before .before .before .pre .1)) (c .before .before .before .before .before .before .fits2 .ensures) (is-true _ (c .before .before .before .before .before .if1 .left)) (one-symbol (c .before .before .before .before .before .before .before .before .before .before .pre .2)) (c .before .before .if3 .left) (c .before .slot-at .ensures .0)), c .before .before .before .before .before .before .before .before .before .before .pre .3)
 
-pub last-spec : {M : Type 1} → statement M
-last-spec =
+pub own-end-spec : {M : Type 1} → statement M
+own-end-spec =
     tie.close
     (tie.spec
     fits-requires
