@@ -17,10 +17,10 @@ use Rattle.calculus.proofs.Lift.{lo, hi, cmp}
 use Rattle.calculus.proofs.Degree.{one-lower}
 use Rattle.code.specs.Limits.{longestTerm, longestState, mostAbstractors}
 use Rattle.code.specs.Scope.{scope}
-use Rattle.frames.specs.Stored.{Stored, frameSize as storedSize}
+use Rattle.frames.specs.Stored.{Stored}
 use Rattle.frames.specs.declared.FrameRecord.{FrameRecord}
 use Rattle.frames.proofs.Laws.{stored-depth, stored-size}
-use Rattle.verdict.specs.Bounds.{frameSize, frameScope, waitingSize, waitingScope, stateSize, stateScope, stateFits}
+use Rattle.verdict.specs.Bounds.{frameScope, waitingSize, waitingScope, stateSize, stateScope, stateFits}
 use Rattle.verdict.specs.Verdict.{Ground, state-outgrown, Progress, Run, passed, stopped, andThen, turned}
 use Rattle.recursion.specs.Recursion.{Waiting, termsOf, liftWaiting, compareNext, tested, atTau, atVar, copiedRule, copiedFrom, enough, ownFrom}
 use Rattle.verdict.proofs.Runs.{cond-both}
@@ -92,12 +92,6 @@ unfolding enough size degree degreeIn degrees
 fewer-abs R e B = omega arith
 
 -- ---- The limits.
-size-same : (R : Frame) → frameSize R ≡ storedSize R
-unfolding frameSize storedSize
-size-same ε = refl
-size-same (R ▹ single U) = omega (arith, size-same R)
-size-same (R ▹ pair K U) = omega (arith, size-same R)
-
 pub sound-scope : {R : Frame} → Sound R → frameScope R ≤ mostAbstractors
 unfolding frameScope
 sound-scope sound-empty = omega arith
@@ -114,13 +108,10 @@ same-cond : {a a′ b b′ : Bool} → a ≡ a′ → b ≡ b′ → cond a b fa
 same-cond p q = rw (p, q)
 
 module _ {w : List ℕ} {f : FrameRecord} {R : Frame} (s : Stored w f R) (o : Sound R) where
-  frame-end : frameSize R ≡ f .end
-  frame-end = size-same R ∙ stored-size s
-
   pub copied-fits : (W Q : List Waiting) (B : Term) {k : ℕ} → Known (f .len) B k
       → stateFits (copied R (termsOf W) (termsOf Q) B) ≡ within (f .end + (waitingSize (termsOf W) + (waitingSize (termsOf Q) + size B))) (f .len + max (waitingScope (termsOf W)) (max (waitingScope (termsOf Q)) k))
   unfolding stateFits stateSize stateScope
-  copied-fits W Q B {k} n = rw (frame-end, stored-depth s) (ap (λ b. cond (leb (f .end + (waitingSize (termsOf W) + (waitingSize (termsOf Q) + size B))) longestState) b false)
+  copied-fits W Q B {k} n = rw (stored-size s, stored-depth s) (ap (λ b. cond (leb (f .end + (waitingSize (termsOf W) + (waitingSize (termsOf Q) + size B))) longestState) b false)
       (same-leb _ _ mostAbstractors (λ h. up n h) (λ h. down n h)))
     where
       up : Known (f .len) B k → max (frameScope R) (f .len + max (waitingScope (termsOf W)) (max (waitingScope (termsOf Q)) (scope B))) ≤ mostAbstractors → f .len + max (waitingScope (termsOf W)) (max (waitingScope (termsOf Q)) k) ≤ mostAbstractors
@@ -136,7 +127,7 @@ module _ {w : List ℕ} {f : FrameRecord} {R : Frame} (s : Stored w f R) (o : So
   unfolding stateFits stateSize stateScope waitingSize waitingScope termsOf
   own-fits W B l =
       let e : f .end + (waitingSize (termsOf W) + size B) ≡ f .end + (waitingSize (termsOf W) + (0 + size B)) = omega arith in
-      rw (frame-end, stored-depth s) (same-cond (ap (λ n. leb n longestState) e)
+      rw (stored-size s, stored-depth s) (same-cond (ap (λ n. leb n longestState) e)
       (same-leb (max (frameScope R) (f .len + max (waitingScope (termsOf W)) (scope B))) (f .len + max (waitingScope (termsOf W)) (max 0 0)) mostAbstractors (λ h. omega arith) (λ h. omega (arith, sound-scope o))))
 
 pub room : (d end k : ℕ) (W Q : List Waiting) (B : Term) → Known d B k

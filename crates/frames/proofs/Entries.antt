@@ -10,7 +10,8 @@ use Rattle.calculus.specs.Terms.{Term}
 use Rattle.calculus.specs.Frames.{Entry, single, Frame, depth}
 use Rattle.code.specs.Claims.{Stands}
 use Rattle.code.proofs.Parts.{stands-start, stands-end, stands-taken, stands-unique}
-use Rattle.frames.specs.Stored.{frameSize, EntryBytes, bytes-single, bytes-pair, Entries, no-entry, one-entry, Agree}
+use Rattle.verdict.specs.Bounds.{frameSize}
+use Rattle.frames.specs.Stored.{EntryBytes, bytes-single, bytes-pair, Entries, no-entry, one-entry, Agree}
 
 -- ---- An entry.
 pub bytes-start : {w : List ℕ} {p e : ℕ} {x : Entry} → EntryBytes w p x e → suc p < e

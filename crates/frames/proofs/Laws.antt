@@ -16,7 +16,8 @@ use Rattle.code.proofs.FirstZero.{standing}
 use Rattle.code.proofs.Parts.{stands-start, stands-end}
 use Rattle.calculus.proofs.Ren.{no-some}
 use Rattle.calculus.proofs.Weaken.{entryAt-zero}
-use Rattle.frames.specs.Stored.{frameSize, EntryBytes, bytes-single, bytes-pair, Entries, no-entry, one-entry, Stored, Holding, Agree, pushed, EntryParts, span-single, span-pair, SomeTermFrom, EndAt, EntryAt, Parted, Looked}
+use Rattle.verdict.specs.Bounds.{frameSize}
+use Rattle.frames.specs.Stored.{EntryBytes, bytes-single, bytes-pair, Entries, no-entry, one-entry, Stored, Holding, Agree, pushed, EntryParts, span-single, span-pair, SomeTermFrom, EndAt, EntryAt, Parted, Looked}
 use Rattle.frames.specs.Claims.{FrameLaws}
 use Rattle.frames.specs.declared.FrameRecord.{FrameRecord}
 use Rattle.frames.specs.declared.Span.{Span}

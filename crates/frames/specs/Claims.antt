@@ -9,7 +9,8 @@ use Rattle.calculus.specs.Terms.{Term}
 use Rattle.calculus.specs.Frames.{Entry, Frame, _▹_, depth, entryAt}
 use Rattle.code.specs.Limits.{longestState, mostAbstractors}
 use Rattle.code.specs.Claims.{Stands}
-use Rattle.frames.specs.Stored.{frameSize, EntryBytes, Stored, Agree, pushed}
+use Rattle.verdict.specs.Bounds.{frameSize}
+use Rattle.frames.specs.Stored.{EntryBytes, Stored, Agree, pushed}
 use Rattle.frames.specs.declared.FrameRecord.{FrameRecord}
 
 pub record FrameLaws : Type 0 where

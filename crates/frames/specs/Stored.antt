@@ -5,18 +5,12 @@ use mathlib.Core.Path.{_≡_}
 use mathlib.Core.Option.{some}
 use mathlib.Core.List.{List}
 use lib.ListN.{length, getD, set}
-use Rattle.calculus.specs.Terms.{Term, size}
+use Rattle.calculus.specs.Terms.{Term}
 use Rattle.calculus.specs.Frames.{Entry, single, pair, Frame, ε, _▹_, entryAt}
 use Rattle.code.specs.Limits.{longestState, mostAbstractors}
 use Rattle.code.specs.Claims.{Stands}
 use Rattle.frames.specs.declared.FrameRecord.{FrameRecord}
 use Rattle.frames.specs.declared.Span.{Span}
-
--- The bytes of a frame: an abstractor or an applicator counts 1 and its term.
-unfoldable pub frameSize : Frame → ℕ
-frameSize ε = 0
-frameSize (R ▹ single U) = frameSize R + suc (size U)
-frameSize (R ▹ pair K U) = frameSize R + (suc (size K) + suc (size U))
 
 -- An entry as bytes, from p up to e: ff U, or fe K ff U.
 pub data EntryBytes (w : List ℕ) : ℕ → Entry → ℕ → Type 0 where
