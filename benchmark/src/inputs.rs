@@ -23,7 +23,7 @@ const fn refused(name: &'static str, what: &'static str, number: u32, make: fn()
     Input { name, what, number, make }
 }
 
-pub const ALL: [Input; 17] = [
+pub const ALL: [Input; 20] = [
     accepted("small", "small file (E3 of document 01)", small),
     accepted("book1", "book of 1 KB", || book(1023, 0, SHORT)),
     accepted("book2", "book of 2 KB", || book(2047, 0, SHORT)),
@@ -41,6 +41,9 @@ pub const ALL: [Input; 17] = [
     accepted("(2)", "(2) 220 pairs and an abstractor, 800 times", || used_pairs(220, 800)),
     accepted("(3)", "(3) to 4,096 bytes and back, near the front", || up_and_back(200, 40)),
     accepted("(4)", "(4) 1,500 bytes before 1,298 variables", long_declaration),
+    accepted("(5)", "(5) 222 removals from the front of 4,000 bytes, 89 times", || front_removals(222, 89)),
+    accepted("(6)", "(6) a chain of 120 names at the end of 4,000 bytes", || chain_at_end(120, 70, 2)),
+    accepted("(7)", "(7) 512 comparisons of 1,021 bytes, no step", || long_bodies(511, 512)),
 ];
 
 fn joined(parts: &[&[u8]]) -> Vec<u8> {
@@ -268,6 +271,61 @@ fn up_and_back(pairs: usize, count: usize) -> Vec<u8> {
     gen::file(&term, &groups)
 }
 
+/// [D][D][D], where D has this index outside.
+fn three_of(d: u8) -> [u8; 6] {
+    [0xff, d, 0xff, d + 1, 0xff, d + 2]
+}
+
+/// Unfolds the three, from place `at` on, where D is of `size` bytes.
+fn unfold_three(at: usize, size: usize) -> Vec<Step> {
+    (0..3).map(|i| local(at + 1 + i * (1 + size))).collect()
+}
+
+/// A definition D of 1,037 bytes, [a:[D][D][D]*][f:[x:U]*], where U has `pairs` times <p>[*] before [D][D][D]*, and
+/// applications of f to a. The three are unfolded on both sides, on the right to 4,003 bytes; then the pairs are removed, each
+/// at place 0.
+fn front_removals(pairs: usize, count: usize) -> Vec<u8> {
+    let d = big_definition(&uses_of(1, 258), 1);
+    let size = d.len() - 3;
+    let mut term = joined(&[&[0xff, 0], &d, &[0xff], &three_of(1), &[0, 0xff, 0xff]]);
+    for i in 0..pairs {
+        term.extend([0xfe, 3 + i as u8, 0xff, 0]);
+    }
+    term.extend(joined(&[&three_of(2 + pairs as u8), &[0, 0], &applications(2, 1, count)]));
+    let mut right = unfold_three(4 * pairs, size);
+    right.extend(vec![removal(0); pairs]);
+    let mut groups = vec![group(vec![], vec![]), group(vec![removal(0)], vec![])];
+    groups.extend(empty_groups(pairs));
+    groups.extend(vec![group(unfold_three(0, size), right); count]);
+    gen::file(&term, &groups)
+}
+
+/// A chain of names, p the first, a definition D of 1,285 bytes, [a:[D][D][D]V][f:[x:[D][D][D]Z]*], where V is `uses` uses of p
+/// and Z as many of the last name, and applications of f to a. The three are unfolded on both sides, to 3,997 bytes; then each
+/// name in Z is taken down to p.
+fn chain_at_end(names: usize, uses: usize, count: usize) -> Vec<u8> {
+    let last = names as u8;
+    let d = big_definition(&uses_of(last + 1, 320), last + 1);
+    let size = d.len() - 3;
+    let term = joined(&[
+        &[0xff, 0],
+        &times(names, &[0xfe, 1, 0xff, 0]),
+        &d,
+        &joined(&[&[0xff], &three_of(1), &uses_of(last + 5, uses)]),
+        &joined(&[&[0xff, 0xff], &three_of(2), &uses_of(6, uses), &[0]]),
+        &applications(2, 1, count),
+    ]);
+    let mut right = unfold_three(0, size);
+    let first = 3 * (1 + size) + uses - 1;
+    for place in first..first + uses {
+        right.extend(vec![local(place); names]);
+    }
+    let mut groups = empty_groups(names + 1);
+    groups.push(group(vec![removal(0)], vec![]));
+    groups.extend(vec![group(unfold_three(0, size), right); count]);
+    gen::file(&term, &groups)
+}
+
 // ---- Nesting and waiting.
 
 fn nested_k() -> Vec<u8> {
@@ -379,4 +437,11 @@ fn long_declaration() -> Vec<u8> {
     let uses = (4095 - n.len() - 3 + 1) / 2;
     let term = joined(&[&[0xff, 0xff], &n, &[0], &uses_of(1, uses)]);
     gen::file(&term, &[])
+}
+
+/// [p:*][a:N][f:[x:N]*], where N is uses of p, and applications of f to a.
+fn long_bodies(uses: usize, count: usize) -> Vec<u8> {
+    let n = |p| uses_of(p, uses);
+    let term = joined(&[&[0xff, 0, 0xff], &n(1), &[0xff, 0xff], &n(2), &[0], &applications(2, 1, count)]);
+    gen::file(&term, &empty_groups(count))
 }

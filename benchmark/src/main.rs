@@ -100,7 +100,7 @@ fn benchmark(with_reference: bool) {
          kept: fast, keeps its buffers and clears nothing. The best of {ROUNDS} interleaved measurements counts.\n",
         std::mem::size_of::<Space>()
     );
-    println!("{:44} {:>6} {:>6} {:>5} {:>6} {:>7}  answer of all", "input", "file", "term", "comp.", "steps", "states");
+    println!("{:56} {:>6} {:>6} {:>5} {:>6} {:>7}  answer of all", "input", "file", "term", "comp.", "steps", "states");
     let mut lines = Vec::new();
     for input in inputs::ALL {
         let file = (input.make)();
@@ -111,12 +111,12 @@ fn benchmark(with_reference: bool) {
     for _ in 0..ROUNDS {
         lines.iter_mut().for_each(|line| measure(line, &mut space));
     }
-    println!("\n{:44} {:>14} {:>14}   this machine, us:", "", "proved/cleared", "proved/kept");
-    println!("{:44} {:>14} {:>14} {:>10} {:>9} {:>9}", "input", "", "", "proved", "cleared", "kept");
+    println!("\n{:56} {:>14} {:>14}   this machine, us:", "", "proved/cleared", "proved/kept");
+    println!("{:56} {:>14} {:>14} {:>10} {:>9} {:>9}", "input", "", "", "proved", "cleared", "kept");
     for line in &lines {
         let [proved, cleared, kept] = line.best.map(|nanoseconds| nanoseconds as f64);
         println!(
-            "{:44} {:>14.2} {:>14.2} {:>10.2} {:>9.2} {:>9.2}",
+            "{:56} {:>14.2} {:>14.2} {:>10.2} {:>9.2} {:>9.2}",
             line.input.what,
             proved / cleared,
             proved / kept,
@@ -143,7 +143,7 @@ fn verify(input: &Input, file: &[u8], with_reference: bool) {
     let term = usize::from(file[1]) << 8 | usize::from(file[2]);
     let Answer { number, place, comparisons, degree } = answer;
     println!(
-        "{:44} {:>6} {:>6} {:>5} {:>6} {:>7}  {number} {place} {comparisons} {degree}",
+        "{:56} {:>6} {:>6} {:>5} {:>6} {:>7}  {number} {place} {comparisons} {degree}",
         input.what,
         file.len(),
         term,

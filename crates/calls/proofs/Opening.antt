@@ -3,16 +3,13 @@
 use Prim.Native.Nat.{ℕ}
 use mathlib.Core.Path.{_≡_, refl, ap, sym, _∙_}
 use mathlib.Core.List.{List, []}
-use Rattle.calculus.specs.Terms.{Term}
-use Rattle.fields.specs.Fields.{GroupAt, Fields, readFile, termBytes, layoutOf}
-use Rattle.fields.specs.Fields as fields
+use Rattle.fields.specs.Fields.{readFile, termBytes, layoutOf}
 use Rattle.fields.specs.declared.Layout.{Layout}
 use Rattle.fields.proofs.Groups.{if-accepted, if-refused, accepts}
 use Rattle.examine.specs.Inspect.{Examined, examined, termAnswerOf, termAnswer}
-use Rattle.examine.specs.Inspect as term
 use Rattle.examine.specs.declared.TermAnswer.{TermAnswer}
 use Rattle.examine.proofs.Laws.{refused-answer, number-zero}
-use Rattle.files.specs.File.{Opened, refused, opened, openTerm, openFields, openFile, FileAnswer, fileAnswerOf, fileAnswer}
+use Rattle.files.specs.File.{Opened, refused, opened, openTerm, openFields, openFile, fileAnswerOf, fileAnswer}
 use Rattle.calls.specs.Answers.{FileAnswered}
 
 answered : (s : List ℕ) (o : Opened) {n p : ℕ} {part : List ℕ} → openFile s ≡ o → FileAnswered n p part (fileAnswerOf s o) → FileAnswered n p part (fileAnswer s)

@@ -1,7 +1,7 @@
 -- What each answer of `write_type` and `apply_step` says of the term.
 -- Assumes nothing.
-use Prim.Native.Nat.{ℕ, _+_, _≤_, _<_}
-use mathlib.Core.Path.{_≡_, refl, ap, sym, _∙_}
+use Prim.Native.Nat.{ℕ, _+_, _≤_}
+use mathlib.Core.Path.{_≡_, refl, ap, _∙_}
 use mathlib.Core.Bool.{Bool, true, false, cond}
 use mathlib.Core.Option.{Option, none, some}
 use mathlib.Core.List.{List}
@@ -9,16 +9,16 @@ use native.Mathlib.Omega.{arith}
 use lib.Dec.{leb}
 use lib.ListN.{length, take}
 use lib.Seq.{sets}
-use borrow.Author.Tests.{leb-true, leb-false}
+use borrow.Author.Tests.{leb-true}
 use Rattle.calculus.specs.Terms.{Term, size, Closed}
 use Rattle.calculus.specs.Frames.{ε, depth, closed-empty}
-use Rattle.calculus.specs.Types.{degree, type}
+use Rattle.calculus.specs.Types.{type}
 use Rattle.calculus.specs.Steps.{Step, Outcome, step}
 use Rattle.calculus.specs.Steps as calculus
 use Rattle.calculus.proofs.Degree.{degrees-hold}
 use Rattle.calculus.proofs.Closed.{closedness}
 use Rattle.code.specs.Limits.{longestTerm, mostAbstractors}
-use Rattle.code.specs.Code.{Bytes, encode, decode}
+use Rattle.code.specs.Code.{Bytes, encode}
 use Rattle.code.specs.Scope.{scope, Fits}
 use Rattle.code.proofs.RoundTrip.{length-encode, decode-encode}
 use Rattle.code.proofs.Scope.{closed-coded}

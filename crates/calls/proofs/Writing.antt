@@ -1,165 +1,174 @@
 -- What the parts of `write_type` and `apply_step` make of their answers.
 -- Assumes nothing.
-use Prim.Native.Nat.{ℕ, _+_, _-_, _≤_, _<_}
-use mathlib.Core.Path.{_≡_, ap, sym, _∙_}
-use mathlib.Core.Bool.{true, false}
-use mathlib.Core.Option.{Option, none, some}
+use Prim.Native.Nat.{ℕ, _+_, _≤_, _<_}
+use mathlib.Core.Path.{_≡_, ap, sym, subst, _∙_}
+use mathlib.Core.Bool.{Bool}
+use mathlib.Core.Option.{Option}
 use mathlib.Core.List.{List}
 use native.Mathlib.Omega.{arith}
-use lib.ListN.{length, take, length-take}
+use lib.ListN.{length}
 use lib.Seq.{sets}
 use borrow.Author.Tests.{le-leb, lt-leb}
 use Rattle.calculus.specs.Terms.{Term, size}
-use Rattle.calculus.specs.Frames.{Frame, ε, depth, closed-empty}
+use Rattle.calculus.specs.Frames.{ε, depth, closed-empty}
 use Rattle.calculus.specs.Types.{type}
 use Rattle.calculus.specs.Steps.{Step, Outcome, step}
-use Rattle.calculus.specs.Steps as calculus
-use Rattle.code.specs.Limits.{longestTerm, longestState}
+use Rattle.calculus.proofs.Lift.{lift-zero}
+use Rattle.code.specs.Limits.{longestTerm, longestState, mostAbstractors}
 use Rattle.code.specs.Code.{Bytes, encode}
-use Rattle.code.specs.Claims.{Stands}
+use Rattle.code.specs.Claims.{Encodes, Stands}
 use Rattle.code.proofs.RoundTrip.{encode-decode, length-encode}
-use Rattle.code.proofs.Parts.{stands-self, stands-end}
+use Rattle.code.proofs.Parts.{stands-self}
 use Rattle.frames.specs.Stored.{EmptyRecord}
-use Rattle.frames.specs.Body.{Body, SomeBody}
 use Rattle.frames.specs.declared.FrameRecord.{FrameRecord}
-use Rattle.parts.specs.Parts.{Copied}
-use Rattle.parts.proofs.Standing.{copied-term}
-use Rattle.examine.specs.Inspect.{Examined, refused, accepted, examined, termAnswer}
+use Rattle.letters.specs.Letters.{letters, Lies}
+use Rattle.letters.specs.Contracts.{Readable, ReadAs, read-all, too-deep, Reads, Writable, Writes}
+use Rattle.letters.proofs.Letters.{lies-stored}
+use Rattle.bodies.specs.Held.{Held, SomeHeld, FormAs, form-outgrown, form-held, SteppedAs, Steps, TypedAs, Types}
+use Rattle.bodies.specs.Held as bodies
+use Rattle.bodies.specs.declared.Form.{Form}
+use Rattle.bodies.specs.declared.Form.the-variants.{Refused, Outgrown, Length}
+use Rattle.examine.specs.Inspect.{refused, accepted, examined, termAnswer}
 use Rattle.examine.specs.declared.TermAnswer.{TermAnswer}
 use Rattle.examine.specs.Claims.{WellFormed}
 use Rattle.examine.proofs.Laws.{examining-holds, number-zero}
-use Rattle.verdict.specs.Bounds.{bodyFits}
-use Rattle.types.specs.Typed.{TypedAs, Types}
-use Rattle.types.specs.declared.Typed.{Typed}
-use Rattle.types.specs.declared.Typed.the-variants.{Nothing, Outgrown, Length}
-use Rattle.types.proofs.Use.{nothing-typed, outgrown-typed, written-typed}
-use Rattle.steps.specs.Answer.{SteppedAs, Answers}
-use Rattle.steps.specs.declared.Stepped.{Stepped}
-use Rattle.steps.specs.declared.Stepped.the-variants as steps
-use Rattle.steps.proofs.Callers.{answer-refused, answer-outgrown, answer-length}
-use Rattle.calls.specs.Answers.{Written, nothing, answer, handed, written, typeWritten, typeAnswerOf, typeAnswer, stepWritten, stepAnswerOf, stepAnswer, AcceptedTerm, Opened}
+use Rattle.calls.specs.Answers.{Written, nothing, answer, handed, written, typeWritten, typeAnswerOf, typeAnswer, stepWritten, stepAnswerOf, stepAnswer, AcceptedTerm, Opened, InLetters}
 
--- A TERM THAT IS ACCEPTED stands in the body's buffer, after the empty frame
+-- ---- A term that is accepted, as letters.
 pub accepted-term : (s : List ℕ) {r : TermAnswer} → r ≡ termAnswer s → r .number ≡ 0 → AcceptedTerm s
 accepted-term s q e = let p = number-zero s (rw q at e) in record { term = p .0; accepts = p .1 }
-
-module _ {s : List ℕ} {t : Term} (y : Bytes s) (a : WellFormed s t) where
-  stands-whole : Stands s 0 (length s) t
-  stands-whole =
-      let h = encode-decode s t y (a .decodes) in
-      rw (h .bytes, sym (length-encode t) ∙ ap length (h .bytes)) at (stands-self (h .coded))
-
-  whole-size : length s ≡ size t
-  whole-size = ap length (sym (encode-decode s t y (a .decodes) .bytes)) ∙ length-encode t
 
 pub accepts : {s : List ℕ} {t : Term} → Bytes s → examined s ≡ accepted t → WellFormed s t
 accepts {s} {t} y = examining-holds .accepts s t y .0
 
-pub length-accepted : {s : List ℕ} → Bytes s → AcceptedTerm s → length s ≤ longestTerm
-length-accepted y a = let x = accepts y (a .accepts) in omega (arith, whole-size y x, x .short)
+module _ {s : List ℕ} {t : Term} (y : Bytes s) (a : WellFormed s t) where
+  encodes : Encodes s t
+  encodes = encode-decode s t y (a .decodes)
 
-pub start-body : {s b b′ : List ℕ} → Bytes s → length b ≡ longestTerm → Copied s 0 (length s) b b′ 0 → Opened s b′
-unfolding depth
-start-body {s} {b} {b′} y m c =
-    record {
-      body = λ t e h.
-          let a = accepts y e in
-          let q = whole-size y a in
-          let l : 0 + size t ≡ length s = omega arith in
-          record {
-            stored = h;
-            closed-frame = closed-empty;
-            buffer = c .same-length ∙ m;
-            stands = rw l at (copied-term c (stands-whole y a) (omega (arith, q, a .short)));
-            closed = a .closed;
-            shallow = omega (arith, a .shallow);
-          };
-    }
+  whole-size : length s ≡ size t
+  whole-size = ap length (sym (encodes .bytes)) ∙ length-encode t
 
-pub opened : {s b w : List ℕ} {f : FrameRecord} (a : AcceptedTerm s) → Opened s b → EmptyRecord f → length w ≡ longestState → Body w f b (length s) ε (a .term)
+  stands-whole : Stands s 0 (length s) t
+  stands-whole = rw (encodes .bytes, sym whole-size) at (stands-self (encodes .coded))
+
+module _ {s b : List ℕ} (y : Bytes s) (m : length b ≡ longestTerm) where
+  pub body-readable : {room : ℕ} → room < 1024 → AcceptedTerm s → Readable s 0 (length s) 0 0 0 room b 0
+  body-readable l a =
+      let x = accepts y (a .accepts) in
+      let n : length s ≤ longestTerm = omega (arith, whole-size y x, x .short) in
+      record {
+        standing = record { term = a .term; stands = stands-whole y x; short = omega arith };
+        index = omega arith;
+        deep = omega arith;
+        high = omega arith;
+        array = m;
+        fits = omega arith;
+      }
+
+  body-lies : {b′ : List ℕ} {r : Bool} {t : Term} → WellFormed s t → ReadAs 0 0 0 mostAbstractors b b′ 0 t r → Lies b′ 0 (length s) 0 0 t
+  body-lies {b′} {t = t} a (read-all e l) =
+      subst (λ n. Lies b′ 0 n 0 0 t) (omega (arith, whole-size y a)) (lies-stored b 0 0 0 (encodes y a .coded) (omega (arith, a .short)) (e ∙ ap (λ u. sets b 0 (letters 0 0 u)) (lift-zero 0 t)))
+  body-lies a (too-deep l) = absurd (omega (arith, a .shallow))
+
+  pub body-opened : {b′ : List ℕ} {r : Bool} → Reads s 0 (length s) 0 0 0 mostAbstractors b b′ 0 r → Opened s b′
+  unfolding depth
+  body-opened d =
+      record {
+        body = λ t e h.
+            let a = accepts y e in
+            record {
+              stored = h;
+              closed-frame = closed-empty;
+              array = d .same-length ∙ m;
+              lies = body-lies a (d .all t (stands-whole y a));
+              closed = a .closed;
+              shallow = omega (arith, a .shallow);
+            };
+      }
+
+opened : {s b w : List ℕ} {f : FrameRecord} (a : AcceptedTerm s) → Opened s b → EmptyRecord f → length w ≡ longestState → Held w f b (length s) ε (a .term)
 opened {w = w} a k g l = k .body (a .term) (a .accepts) (g .holds w l)
 
-pub some-body : {s b w : List ℕ} {f : FrameRecord} → AcceptedTerm s → Opened s b → EmptyRecord f → length w ≡ longestState → SomeBody w f b (length s)
-some-body a k g l = record { frame = ε; term = a .term; body = opened a k g l }
+pub some-held : {s b w : List ℕ} {f : FrameRecord} → AcceptedTerm s → Opened s b → EmptyRecord f → length w ≡ longestState → SomeHeld w f b (length s)
+some-held a k g l = record { frame = ε; term = a .term; held = opened a k g l }
 
--- HANDING OVER
-length-taken : (b : List ℕ) (m : ℕ) → m ≤ length b → length (take m b) ≡ m
-length-taken b m h = omega (arith, length-take m b)
+-- ---- Handing over.
+module _ {b : List ℕ} {n : ℕ} {t : Term} (h : InLetters b n t) (out : List ℕ) where
+  length-lies : length (encode t) ≡ n
+  length-lies = omega (arith, length-encode t, h .lies .place)
 
-module _ (b : List ℕ) {m : ℕ} (out : List ℕ) (h : m ≤ length b) where
-  pub too-short : length out < m → answer 14 0 0 out ≡ handed out (take m b)
+  pub writable : n ≤ length out → Writable b n out
+  writable l = record { term = t; lies = h .lies; shallow = omega (arith, h .shallow); array = h .array; fits = l }
+
+  pub too-short : length out < n → answer 14 0 0 out ≡ handed out (encode t)
   unfolding handed
-  too-short l = rw (length-taken b m h, lt-leb m (length out) l)
+  too-short l = rw (length-lies, lt-leb n (length out) l)
 
-  pub long-enough : {out′ : List ℕ} → m ≤ length out → Copied b 0 m out out′ 0 → answer 0 0 m out′ ≡ handed out (take m b)
+  pub long-enough : {out′ : List ℕ} → n ≤ length out → Writes b n out out′ → answer 0 0 n out′ ≡ handed out (encode t)
   unfolding handed
-  long-enough l c = rw (length-taken b m h, le-leb m (length out) l, c .bytes, same)
+  long-enough l d = rw (length-lies, le-leb n (length out) l, d .bytes t (h .lies) (omega (arith, h .shallow)))
+
+-- ---- What the answer x has to be, by the form that the body was brought to; `unmet` is the answer where there is none.
+pub data Answers (b out : List ℕ) (unmet x : Written) : Form → Type 0 where
+  at-refusal : {y : ℕ} → unmet ≡ x → Answers b out unmet x (Refused y)
+  at-outgrown : answer 11 0 0 out ≡ x → Answers b out unmet x Outgrown
+  at-letters : {m : ℕ} {u : Term} → InLetters b m u → handed out (encode u) ≡ x → Answers b out unmet x (Length m)
+
+form-answers : {w b out : List ℕ} {f : FrameRecord} {u : Term} {unmet x : Written} {r : Form} → FormAs w f b ε u r → written out u ≡ x → Answers b out unmet x r
+unfolding written depth
+form-answers (form-outgrown h) e = at-outgrown (rw h at e)
+form-answers (form-held h q y) e = at-letters (record { array = y .array; lies = y .lies; shallow = omega (arith, y .shallow) }) (rw h at e)
+
+module _ {b out : List ℕ} {unmet x : Written} where
+  pub answers-unmet : {r : Form} {y : ℕ} → Answers b out unmet x r → r ≡ Refused y → unmet ≡ x
+  answers-unmet d q = go (rw q at d)
     where
-      same : m - 0 ≡ m
-      same = omega arith
+      go : {y : ℕ} → Answers b out unmet x (Refused y) → unmet ≡ x
+      go (at-refusal e) = e
 
-written-large : (out : List ℕ) (t : Term) → bodyFits ε t ≡ false → answer 11 0 0 out ≡ written out t
-unfolding written
-written-large out t h = rw h
+  pub answers-large : {r : Form} → Answers b out unmet x r → r ≡ Outgrown → answer 11 0 0 out ≡ x
+  answers-large d q = go (rw q at d)
+    where
+      go : Answers b out unmet x Outgrown → answer 11 0 0 out ≡ x
+      go (at-outgrown e) = e
 
-written-fits : (out : List ℕ) (t : Term) {v : List ℕ} → bodyFits ε t ≡ true → v ≡ encode t → handed out v ≡ written out t
-unfolding written
-written-fits out t h e = rw (h, e)
+  pub answers-letters : {r : Form} {m : ℕ} → Answers b out unmet x r → r ≡ Length m → (u : Term) × InLetters b m u × (handed out (encode u) ≡ x)
+  answers-letters {m = m} d q = go (rw q at d)
+    where
+      go : Answers b out unmet x (Length m) → (u : Term) × InLetters b m u × (handed out (encode u) ≡ x)
+      go (at-letters {u = u} h e) = (u, h, e)
 
--- THE TYPE
+  pub answers-done : {r : Form} {m : ℕ} {z : Written} → Answers b out unmet x r → r ≡ Length m → ((u : Term) → InLetters b m u → z ≡ handed out (encode u)) → z ≡ x
+  answers-done d q k = let h = answers-letters d q in k (h .0) (h .1) ∙ h .2
+
+-- ---- The type, and a step.
 pub type-refused : (s out : List ℕ) {n p : ℕ} → examined s ≡ refused n p → answer n p 0 out ≡ typeAnswer s out
 unfolding typeAnswer typeAnswerOf
 type-refused s out h = sym (ap (typeAnswerOf out) h)
 
-type-accepted : {s : List ℕ} (out : List ℕ) (a : AcceptedTerm s) {o : Option Term} → type ε (a .term) ≡ o → typeWritten out o ≡ typeAnswer s out
-unfolding typeAnswer typeAnswerOf
-type-accepted out a e = sym (ap (typeAnswerOf out) (a .accepts) ∙ ap (typeWritten out) e)
-
-module _ {s w b b′ : List ℕ} {f : FrameRecord} {r : Typed} (a : AcceptedTerm s) (k : Opened s b) (g : EmptyRecord f) (l : length w ≡ longestState)
-    (d : Types w f b b′ (length s) r) where
-  typed-as : TypedAs w f b b′ ε (a .term) r
-  typed-as = d .all ε (a .term) (opened a k g l)
-
-  pub type-length : {m : ℕ} → r ≡ Length m → m ≤ length b′
-  type-length q = stands-end (written-typed (rw q at typed-as) .body .stands)
-
-  pub type-none : (out : List ℕ) → r ≡ Nothing → nothing out ≡ typeAnswer s out
-  unfolding typeWritten
-  type-none out q = type-accepted out a (nothing-typed (rw q at typed-as) .0)
-
-  pub type-large : (out : List ℕ) → r ≡ Outgrown → answer 11 0 0 out ≡ typeAnswer s out
-  unfolding typeWritten
-  type-large out q = let x = outgrown-typed (rw q at typed-as) in written-large out (x .0) (x .2) ∙ type-accepted out a (x .1)
-
-  pub type-done : (out : List ℕ) {m : ℕ} {x : Written} → r ≡ Length m → x ≡ handed out (take m b′) → x ≡ typeAnswer s out
-  unfolding typeWritten
-  type-done out q e = let x = written-typed (rw q at typed-as) in e ∙ (written-fits out (x .term) (x .fits) (x .bytes) ∙ type-accepted out a (x .typed))
-
--- A STEP
 pub step-refused : (s : List ℕ) (x : Step) (out : List ℕ) {n p : ℕ} → examined s ≡ refused n p → answer n p 0 out ≡ stepAnswer s x out
 unfolding stepAnswer stepAnswerOf
 step-refused s x out h = sym (ap (stepAnswerOf out x) h)
 
-step-accepted : {s : List ℕ} (x : Step) (out : List ℕ) (a : AcceptedTerm s) {o : Outcome} → step ε x (a .term) ≡ o → stepWritten out o ≡ stepAnswer s x out
-unfolding stepAnswer stepAnswerOf
-step-accepted x out a e = sym (ap (stepAnswerOf out x) (a .accepts) ∙ ap (stepWritten out) e)
+module _ {s w b b′ : List ℕ} {f : FrameRecord} {r : Form} (a : AcceptedTerm s) (k : Opened s b) (g : EmptyRecord f) (l : length w ≡ longestState) (out : List ℕ) where
+  pub type-answers : Types w f b b′ (length s) r → Answers b′ out (nothing out) (typeAnswer s out) r
+  unfolding typeAnswer typeAnswerOf typeWritten
+  type-answers d = go (d .all ε (a .term) (opened a k g l))
+    where
+      is : {o : Option Term} → type ε (a .term) ≡ o → typeWritten out o ≡ typeAnswer s out
+      is e = sym (ap (typeAnswerOf out) (a .accepts) ∙ ap (typeWritten out) e)
 
-module _ {s w b b′ : List ℕ} {f : FrameRecord} {x : Step} {r : Stepped} (a : AcceptedTerm s) (k : Opened s b) (g : EmptyRecord f) (l : length w ≡ longestState)
-    (d : Answers w f b b′ (length s) x r) where
-  stepped-as : SteppedAs w f b b′ ε x (a .term) r
-  stepped-as = d .all ε (a .term) (opened a k g l)
+      go : {r : Form} → TypedAs w f b′ ε (a .term) r → Answers b′ out (nothing out) (typeAnswer s out) r
+      go (bodies.no-type e q) = at-refusal (is e)
+      go (bodies.typed e z) = form-answers z (is e)
 
-  pub step-length : {m : ℕ} → r ≡ steps.Length m → m ≤ length b′
-  step-length q = stands-end (answer-length stepped-as q .body .stands)
+  pub step-answers : {x : Step} → Steps w f b b′ (length s) x r → Answers b′ out (answer 10 0 0 out) (stepAnswer s x out) r
+  unfolding stepAnswer stepAnswerOf stepWritten
+  step-answers {x} d = go (d .all ε (a .term) (opened a k g l))
+    where
+      is : {o : Outcome} → step ε x (a .term) ≡ o → stepWritten out o ≡ stepAnswer s x out
+      is e = sym (ap (stepAnswerOf out x) (a .accepts) ∙ ap (stepWritten out) e)
 
-  pub step-unmet : (out : List ℕ) → r ≡ steps.Refused → answer 10 0 0 out ≡ stepAnswer s x out
-  unfolding stepWritten
-  step-unmet out q = step-accepted x out a (answer-refused stepped-as q .refuses)
-
-  pub step-large : (out : List ℕ) → r ≡ steps.Outgrown → answer 11 0 0 out ≡ stepAnswer s x out
-  unfolding stepWritten
-  step-large out q = let y = answer-outgrown stepped-as q in written-large out (y .term) (y .outgrown) ∙ step-accepted x out a (y .reaches)
-
-  pub step-done : (out : List ℕ) {m : ℕ} {z : Written} → r ≡ steps.Length m → z ≡ handed out (take m b′) → z ≡ stepAnswer s x out
-  unfolding stepWritten
-  step-done out q e = let y = answer-length stepped-as q in e ∙ (written-fits out (y .term) (y .fits) (y .bytes) ∙ step-accepted x out a (y .reaches))
+      go : {r : Form} → SteppedAs w f b′ ε x (a .term) r → Answers b′ out (answer 10 0 0 out) (stepAnswer s x out) r
+      go (bodies.step-refused e q) = at-refusal (is e)
+      go (bodies.step-reached e z) = form-answers z (is e)

@@ -1,6 +1,6 @@
 -- The answers of the calls 'write a term's type' and 'apply one step' (document 01), with what each leaves in the lent buffer.
 -- Assumes nothing.
-use Prim.Native.Nat.{ℕ}
+use Prim.Native.Nat.{ℕ, _≤_}
 use mathlib.Core.Bool.{cond}
 use mathlib.Core.Path.{_≡_}
 use mathlib.Core.Option.{Option, none, some}
@@ -13,11 +13,14 @@ use Rattle.calculus.specs.Frames.{ε}
 use Rattle.calculus.specs.Types.{type}
 use Rattle.calculus.specs.Steps.{Step, Outcome, step}
 use Rattle.calculus.specs.Steps as calculus
+use Rattle.code.specs.Limits.{longestTerm, mostAbstractors}
 use Rattle.code.specs.Code.{encode}
+use Rattle.code.specs.Scope.{scope}
 use Rattle.examine.specs.Inspect.{Examined, refused, accepted, examined}
 use Rattle.frames.specs.declared.FrameRecord.{FrameRecord}
 use Rattle.frames.specs.Stored.{Stored}
-use Rattle.frames.specs.Body.{Body}
+use Rattle.letters.specs.Letters.{Lies}
+use Rattle.bodies.specs.Held.{Held}
 use Rattle.verdict.specs.Bounds.{bodyFits}
 use Rattle.files.specs.File.{FileAnswer}
 use Rattle.calls.specs.declared.StepAnswer.{StepAnswer}
@@ -83,6 +86,12 @@ pub record AcceptedTerm (s : List ℕ) : Type 0 where
   pub term : Term
   pub accepts : examined s ≡ accepted term
 
--- A buffer that holds, as a body after the empty frame, the term that s is.
+-- Letters that hold, as a body after the empty frame, the term that s is.
 pub record Opened (s b : List ℕ) : Type 0 where
-  pub body : {w : List ℕ} {f : FrameRecord} (t : Term) → examined s ≡ accepted t → Stored w f ε → Body w f b (length s) ε t
+  pub body : {w : List ℕ} {f : FrameRecord} (t : Term) → examined s ≡ accepted t → Stored w f ε → Held w f b (length s) ε t
+
+-- The term t lies in n letters at the start of b, within the limits.
+pub record InLetters (b : List ℕ) (n : ℕ) (t : Term) : Type 0 where
+  pub array : length b ≡ longestTerm
+  pub lies : Lies b 0 n 0 0 t
+  pub shallow : scope t ≤ mostAbstractors

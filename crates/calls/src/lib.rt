@@ -1,10 +1,22 @@
 // The public calls of document 01 on the caller's own bytes. None has a `requires`, and none relies on an earlier one.
 ghost use mathlib.Core.Path.{_≡_};
+ghost use lib.ListN.{length};
+ghost use Rattle.calculus.specs.Terms.{Term};
+ghost use Rattle.code.specs.Limits.{longestTerm};
+ghost use Rattle.code.specs.Code.{encode};
 ghost use Rattle.files.specs.File.{fileAnswer};
-ghost use Rattle.calls.specs.Answers.{FileAnswered, handed, typeAnswer, typeSays, stepAnswer, stepSays, AcceptedTerm, Opened};
+ghost use Rattle.calls.specs.Answers.{FileAnswered, handed, typeAnswer, typeSays, stepAnswer, stepSays, AcceptedTerm, Opened, InLetters};
 ghost use Rattle.calls.specs.Claims.{Promises};
-ghost use Prim.Native.Nat.{_≤_};
-ghost use lib.ListN.{length, take};
+use bodies::Form;
+use code::numbers::ACCEPTED;
+use code::numbers::BUFFER_TOO_SHORT;
+use code::numbers::LONGEST_STATE;
+use code::numbers::LONGEST_TERM;
+use code::numbers::MOST_ABSTRACTORS;
+use code::numbers::OUTGROWN;
+use code::numbers::STEP_NOT_POSSIBLE;
+use frames::Work;
+use letters::Letters;
 
 // The answer of `write_type`: 'none', or number, place, and the length written.
 pub enum TypeAnswer {
@@ -26,7 +38,7 @@ pub fn examine_file<'a>(s: &'a [u8], number: &mut u32, place: &mut usize) -> &'a
 {
     let fields = fields::read_fields(s);
     let code = fields.number;
-    if code != 0 {
+    if code != ACCEPTED {
         *number = code;
         *place = fields.place;
         return &s[..0];
@@ -36,41 +48,39 @@ pub fn examine_file<'a>(s: &'a [u8], number: &mut u32, place: &mut usize) -> &'a
     let term = examine::examine_term(part);
     *number = term.number;
     *place = term.place;
-    if term.number != 0 {
+    if term.number != ACCEPTED {
         return &s[..0];
     }
     part
 }
 
-// Hands the first m bytes of a body over.
-fn deliver(body: &[u8; 4096], m: usize, out: &mut [u8]) -> StepAnswer
-    requires { ⌜ m ≤ length (now body) ⌝ }
-    ensures { λ r. ⌜ stepSays r (now (out .exit)) ≡ handed (now (out .entry)) (take m (now (body .entry))) ⌝ }
+// Hands over the term that lies in n letters at the start of a body.
+fn deliver(body: &Letters, n: usize, out: &mut [u8]) -> StepAnswer
+    requires { ⌜ ((t : Term) × InLetters (now body) n t) ⌝ }
+    ensures { λ r. ⌜ ((t : Term) → InLetters (now (body .entry)) n t → stepSays r (now (out .exit)) ≡ handed (now (out .entry)) (encode t)) ⌝ }
 {
-    if out.len() < m {
+    if out.len() < n {
         return StepAnswer {
-            number: 14,
+            number: BUFFER_TOO_SHORT,
             place: 0,
             length: 0,
         };
     }
-    parts::copy_part(body, 0, m, out, 0);
+    letters::write(body, n, out);
     StepAnswer {
-        number: 0,
+        number: ACCEPTED,
         place: 0,
-        length: m,
+        length: n,
     }
 }
 
-// A term that is accepted, at the start of a body's buffer.
-fn open_body(s: &[u8]) -> [u8; 4096]
-    requires { ⌜ AcceptedTerm (now s) ⌝ }
-    ensures { λ r. ⌜ Opened (now (s .entry)) r ⌝ }
+// A term that is accepted, as letters. It is within the limits, so that reading it never ends early.
+fn open_body(s: &[u8], body: &mut Letters)
+    requires { ⌜ AcceptedTerm (now s) × (length (now body) ≡ longestTerm) ⌝ }
+    ensures { λ r. ⌜ Opened (now (s .entry)) (now (body .exit)) ⌝ }
 {
-    let mut body: [u8; 4096] = [0; 4096];
     let n = s.len();
-    parts::copy_part(s, 0, n, &mut body, 0);
-    body
+    letters::read(s, 0, n, 0, 0, 0, MOST_ABSTRACTORS, body, 0);
 }
 
 // `write_type` for a term that is accepted.
@@ -78,15 +88,16 @@ fn type_accepted(s: &[u8], out: &mut [u8]) -> TypeAnswer
     requires { ⌜ AcceptedTerm (now s) ⌝ }
     ensures { λ r. ⌜ typeSays r (now (out .exit)) ≡ typeAnswer (now (s .entry)) (now (out .entry)) ⌝ }
 {
-    let mut body = open_body(s);
-    let work: [u8; 8192] = [0; 8192];
+    let mut body: Letters = [0; LONGEST_TERM];
+    open_body(s, &mut body);
+    let work: Work = [0; LONGEST_STATE];
     let f = frames::empty_frame();
-    let typed = types::type_in_place(&mut body, s.len(), &work, f);
+    let typed = bodies::type_in_place(&mut body, s.len(), &work, f);
     match typed {
-        types::Typed::Nothing => TypeAnswer::Nothing,
-        types::Typed::Outgrown => TypeAnswer::Answer(11, 0, 0),
-        types::Typed::Length(m) => {
-            let r = deliver(&body, m, out);
+        Form::Refused(_) => TypeAnswer::Nothing,
+        Form::Outgrown => TypeAnswer::Answer(OUTGROWN, 0, 0),
+        Form::Length(n) => {
+            let r = deliver(&body, n, out);
             TypeAnswer::Answer(r.number, r.place, r.length)
         }
     }
@@ -97,7 +108,7 @@ pub fn write_type(s: &[u8], out: &mut [u8]) -> TypeAnswer
     ensures { λ r. ⌜ typeSays r (now (out .exit)) ≡ typeAnswer (now (s .entry)) (now (out .entry)) ⌝ }
 {
     let term = examine::examine_term(s);
-    if term.number != 0 {
+    if term.number != ACCEPTED {
         return TypeAnswer::Answer(term.number, term.place, 0);
     }
     type_accepted(s, out)
@@ -108,22 +119,23 @@ fn step_accepted(s: &[u8], kind: u8, place: usize, out: &mut [u8]) -> StepAnswer
     requires { ⌜ AcceptedTerm (now s) ⌝ }
     ensures { λ r. ⌜ stepSays r (now (out .exit)) ≡ stepAnswer (now (s .entry)) (record { kind = kind; place = place }) (now (out .entry)) ⌝ }
 {
-    let mut body = open_body(s);
-    let work: [u8; 8192] = [0; 8192];
+    let mut body: Letters = [0; LONGEST_TERM];
+    open_body(s, &mut body);
+    let work: Work = [0; LONGEST_STATE];
     let f = frames::empty_frame();
-    let stepped = steps::step_in_place(&mut body, s.len(), &work, f, kind, place);
+    let stepped = bodies::step_in_place(&mut body, s.len(), &work, f, kind, place);
     match stepped {
-        steps::Stepped::Refused => StepAnswer {
-            number: 10,
+        Form::Refused(_) => StepAnswer {
+            number: STEP_NOT_POSSIBLE,
             place: 0,
             length: 0,
         },
-        steps::Stepped::Outgrown => StepAnswer {
-            number: 11,
+        Form::Outgrown => StepAnswer {
+            number: OUTGROWN,
             place: 0,
             length: 0,
         },
-        steps::Stepped::Length(m) => deliver(&body, m, out),
+        Form::Length(n) => deliver(&body, n, out),
     }
 }
 
@@ -132,7 +144,7 @@ pub fn apply_step(s: &[u8], kind: u8, place: u16, out: &mut [u8]) -> StepAnswer
     ensures { λ r. ⌜ stepSays r (now (out .exit)) ≡ stepAnswer (now (s .entry)) (record { kind = kind; place = place }) (now (out .entry)) ⌝ }
 {
     let term = examine::examine_term(s);
-    if term.number != 0 {
+    if term.number != ACCEPTED {
         return StepAnswer {
             number: term.number,
             place: term.place,

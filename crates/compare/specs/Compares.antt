@@ -11,7 +11,7 @@ use Rattle.code.specs.Scope.{Fits}
 use Rattle.fields.specs.Fields.{GroupAt, Groups}
 use Rattle.frames.specs.declared.FrameRecord.{FrameRecord}
 use Rattle.frames.specs.Stored.{Stored}
-use Rattle.frames.specs.Body.{Body, SomeBody}
+use Rattle.bodies.specs.Held.{Held, SomeHeld}
 use Rattle.verdict.specs.Bounds.{bodyFits}
 use Rattle.verdict.specs.Verdict.{Ground, number, Progress, Run, passed, stopped}
 use Rattle.recursion.specs.Recursion.{nextGroup as withGroup, compareNext}
@@ -42,11 +42,11 @@ pub record Compares (file w : List ℕ) (at : ℕ) (f : FrameRecord) (m e : ℕ)
   pub all : (R : Frame) (K U : Term) (gs : List GroupAt) → Stored w f R → Stands w (suc (f .end)) m K → Stands w (suc m) e U → Groups file at gs
       → (place : ℕ) (p : Progress) → p .left ≡ map (λ g. g .group) gs → CompareSays file at r p (compareNext R (record { place = place; term = K }) U p)
 
--- The same once the type of K, within the limits, stands in the buffer b.
+-- The same once the type of K, within the limits, is held in b.
 pub record Typing (file w : List ℕ) (at : ℕ) (f : FrameRecord) (m e : ℕ) (b : List ℕ) (n : ℕ) : Type 0 where
   pub comparing : Comparing file w at f m e
-  pub typed : SomeBody w f b n
+  pub typed : SomeHeld w f b n
 
 pub record ComparesType (file w : List ℕ) (at : ℕ) (f : FrameRecord) (m e : ℕ) (b : List ℕ) (n : ℕ) (r : Compared) : Type 0 where
-  pub all : (R : Frame) (T U : Term) (gs : List GroupAt) → Body w f b n R T → bodyFits R T ≡ true → Stands w (suc m) e U → Groups file at gs
+  pub all : (R : Frame) (T U : Term) (gs : List GroupAt) → Held w f b n R T → bodyFits R T ≡ true → Stands w (suc m) e U → Groups file at gs
       → (place : ℕ) (p : Progress) → p .left ≡ map (λ g. g .group) gs → CompareSays file at r p (withGroup R place T U (p .left) p)

@@ -1,23 +1,29 @@
-// One comparison of the check of a file, `same(R,K,U)`, with the next group of the file: the type of K and U, each replayed
-// by its steps in a buffer of its own, and compared.
-ghost use Prim.Native.Nat.{_≤_};
-ghost use Rattle.code.specs.Limits.{mostAbstractors};
+// One comparison of the check of a file, `same(R,K,U)`, with the next group of the file: the type of K and U, each held as letters
+// in an array of its own, replayed by its steps, and compared.
 ghost use Rattle.fields.specs.Fields.{StepRange};
-ghost use Rattle.frames.specs.Body.{SomeBody};
-ghost use Rattle.compare.specs.Replays.{SomePart, Loadable, Loaded, PartFits, Replays};
+ghost use Rattle.bodies.specs.Held.{SomeHeld};
+ghost use Rattle.compare.specs.Replays.{Loadable, Loads, Replays};
 ghost use Rattle.compare.specs.Sides.{Buffers, TwoSides, Sides};
 ghost use Rattle.compare.specs.Compares.{Comparing, Compares, Typing, ComparesType};
+use bodies::Form;
+use bodies::step_in_place;
+use bodies::type_in_place;
+use code::numbers::ACCEPTED;
+use code::numbers::BODIES_DIFFER;
+use code::numbers::LONGEST_TERM;
+use code::numbers::MOST_ABSTRACTORS;
+use code::numbers::NO_GROUP_LEFT;
+use code::numbers::NO_TYPE;
+use code::numbers::OUTGROWN;
+use code::numbers::STEP_NOT_POSSIBLE;
 use fields::GroupSpan;
 use fields::group_at;
 use fields::step_at;
 use frames::FrameRecord;
-use indices::measure;
-use parts::copy_part;
-use parts::equal;
-use steps::Stepped;
-use steps::step_in_place;
-use types::Typed;
-use types::type_in_place;
+use frames::Work;
+use letters::Letters;
+use letters::read;
+use letters::same;
 
 // The number of what stops the comparison, or 0 and where the next group stands.
 pub struct Compared {
@@ -31,39 +37,28 @@ struct Replayed {
     len: usize,
 }
 
-// The term that stands in the work array is copied to the start of the buffer: its length.
-fn load(work: &[u8; 8192], from: usize, to: usize, body: &mut [u8; 4096]) -> usize
-    requires { ⌜ Loadable (now work) (now body) from to ⌝ }
-    ensures { λ r. ⌜ Loaded (now (work .entry)) (now (body .exit)) from to r ⌝ }
+// The term that stands in the work array, as letters in `body`, if it is within the limits after a frame of len entries.
+fn load(work: &Work, from: usize, to: usize, len: usize, body: &mut Letters) -> bool
+    requires { ⌜ Loadable (now work) (now body) len from to ⌝ }
+    ensures { λ r. ⌜ Loads (now (work .entry)) (now (body .entry)) (now (body .exit)) len from to r ⌝ }
 {
-    let all = &work[..];
-    copy_part(all, from, to, body, 0);
-    to - from
-}
-
-// Whether the term that stands in the work array is within the limits after a frame of len entries.
-fn part_fits(work: &[u8; 8192], len: usize, from: usize, to: usize) -> bool
-    requires { ⌜ SomePart (now work) from to × (len ≤ mostAbstractors) ⌝ }
-    ensures { λ r. ⌜ PartFits (now (work .entry)) len from to r ⌝ }
-{
-    if to - from > 4096 {
+    if to - from > LONGEST_TERM {
         return false;
     }
-    let all = &work[..];
-    measure(all, from, to).scope <= 253 - len
+    read(work, from, to, 0, 0, 0, MOST_ABSTRACTORS - len, body, 0)
 }
 
-// The steps that stand in the file from `from` up to `to`, replayed on the body in the first n bytes.
+// The steps that stand in the file from `from` up to `to`, replayed on the body in the first n letters.
 fn replay(
     file: &[u8],
     from: usize,
     to: usize,
-    body: &mut [u8; 4096],
+    body: &mut Letters,
     n: usize,
-    work: &[u8; 8192],
+    work: &Work,
     f: FrameRecord,
 ) -> Replayed
-    requires { ⌜ StepRange (now file) from to × SomeBody (now work) f (now body) n ⌝ }
+    requires { ⌜ StepRange (now file) from to × SomeHeld (now work) f (now body) n ⌝ }
     ensures { λ r. ⌜ Replays (now (file .entry)) from to (now (work .entry)) f (now (body .entry)) (now (body .exit)) n r ⌝ }
 {
     let mut at = from;
@@ -72,85 +67,90 @@ fn replay(
         let s = step_at(file, at);
         let stepped = step_in_place(body, len, work, f, s.kind, s.place);
         match stepped {
-            Stepped::Refused => {
-                return Replayed { number: 10, len: 0 };
+            Form::Refused(_) => {
+                return Replayed {
+                    number: STEP_NOT_POSSIBLE,
+                    len: 0,
+                };
             }
-            Stepped::Outgrown => {
-                return Replayed { number: 11, len: 0 };
+            Form::Outgrown => {
+                return Replayed {
+                    number: OUTGROWN,
+                    len: 0,
+                };
             }
-            Stepped::Length(m) => {
+            Form::Length(m) => {
                 len = m;
                 at += 3;
             }
         }
     }
     Replayed {
-        number: 0,
+        number: ACCEPTED,
         len: len,
     }
 }
 
-// Each side's steps, and whether both reach the same bytes: the number of what stops that, or 0.
+// Each side's steps, and whether both reach the same form: the number of what stops that, or 0.
 fn compare_sides(
     file: &[u8],
     g: GroupSpan,
-    work: &[u8; 8192],
+    work: &Work,
     f: FrameRecord,
-    left: &mut [u8; 4096],
+    left: &mut Letters,
     n: usize,
-    right: &mut [u8; 4096],
+    right: &mut Letters,
     k: usize,
 ) -> u32
     requires { ⌜ TwoSides (now file) g (now work) f (now left) n (now right) k ⌝ }
     ensures { λ r. ⌜ Sides (now (file .entry)) g (now (work .entry)) f (now (left .entry)) n (now (right .entry)) k r × Buffers (now (left .exit)) (now (right .exit)) ⌝ }
 {
     let l = replay(file, g.left, g.middle, left, n, work, f);
-    if l.number != 0 {
+    if l.number != ACCEPTED {
         return l.number;
     }
     let r = replay(file, g.right, g.next, right, k, work, f);
-    if r.number != 0 {
+    if r.number != ACCEPTED {
         return r.number;
     }
     if l.len != r.len {
-        return 12;
+        return BODIES_DIFFER;
     }
-    if !equal(left, right, l.len) {
-        return 12;
+    if !same(left, right, l.len) {
+        return BODIES_DIFFER;
     }
-    0
+    ACCEPTED
 }
 
-// The type of K is the first n bytes of the buffer `left`, and U stands from m + 1 up to e.
+// The type of K is held in the first n letters of `left`, and U stands from m + 1 up to e.
 fn compare_type(
     file: &[u8],
     at: usize,
-    work: &[u8; 8192],
+    work: &Work,
     f: FrameRecord,
     m: usize,
     e: usize,
-    left: &mut [u8; 4096],
+    left: &mut Letters,
     n: usize,
-    right: &mut [u8; 4096],
+    right: &mut Letters,
 ) -> Compared
     requires { ⌜ Typing (now file) (now work) at f m e (now left) n × Buffers (now left) (now right) ⌝ }
     ensures { λ r. ⌜ ComparesType (now (file .entry)) (now (work .entry)) at f m e (now (left .entry)) n r × Buffers (now (left .exit)) (now (right .exit)) ⌝ }
 {
     if at >= file.len() {
         return Compared {
-            number: 9,
+            number: NO_GROUP_LEFT,
             next: at,
         };
     }
-    if !part_fits(work, f.len, m + 1, e) {
+    if !load(work, m + 1, e, f.len, right) {
         return Compared {
-            number: 11,
+            number: OUTGROWN,
             next: at,
         };
     }
-    let k = load(work, m + 1, e, right);
     let g = group_at(file, at);
-    let number = compare_sides(file, g, work, f, left, n, right, k);
+    let number = compare_sides(file, g, work, f, left, n, right, e - (m + 1));
     Compared {
         number: number,
         next: g.next,
@@ -158,39 +158,40 @@ fn compare_type(
 }
 
 // The comparison of ⟨K⟩[U], which stands in the work array from f.end up to e, with the group at `at`: K ends at m. The two
-// bodies are carried in the lent buffers.
+// bodies are carried in the lent arrays.
 pub fn compare(
     file: &[u8],
     at: usize,
-    work: &[u8; 8192],
+    work: &Work,
     f: FrameRecord,
     m: usize,
     e: usize,
-    left: &mut [u8; 4096],
-    right: &mut [u8; 4096],
+    left: &mut Letters,
+    right: &mut Letters,
 ) -> Compared
     requires { ⌜ Comparing (now file) (now work) at f m e × Buffers (now left) (now right) ⌝ }
     ensures { λ r. ⌜ Compares (now (file .entry)) (now (work .entry)) at f m e r × Buffers (now (left .exit)) (now (right .exit)) ⌝ }
 {
-    let k = load(work, f.end + 1, m, left);
-    let typed = type_in_place(left, k, work, f);
+    let start = f.end + 1;
+    let loaded = load(work, start, m, f.len, left);
+    let typed = type_in_place(left, m - start, work, f);
     match typed {
-        Typed::Nothing => Compared {
-            number: 7,
+        Form::Refused(_) => Compared {
+            number: NO_TYPE,
             next: at,
         },
-        Typed::Outgrown => {
+        Form::Outgrown => {
             if at >= file.len() {
                 return Compared {
-                    number: 9,
+                    number: NO_GROUP_LEFT,
                     next: at,
                 };
             }
             Compared {
-                number: 11,
+                number: OUTGROWN,
                 next: at,
             }
         }
-        Typed::Length(n) => compare_type(file, at, work, f, m, e, left, n, right),
+        Form::Length(n) => compare_type(file, at, work, f, m, e, left, n, right),
     }
 }

@@ -2,7 +2,6 @@
 -- Assumes nothing.
 use Prim.Native.Nat.{ℕ, zero, suc, _+_, _-_, _*_, _≤_, _<_, max}
 use mathlib.Core.Path.{_≡_, refl, ap, sym, _∙_}
-use mathlib.Core.Bool.{Bool, true, false, cond}
 use mathlib.Core.Option.{Option, none, some}
 use mathlib.Core.List.{List, [], _∷_, map}
 use native.Mathlib.Omega.{arith}
@@ -62,7 +61,7 @@ module _ {w : List ℕ} {p e d : ℕ} (g : ShortTerm w p e) where
   pub size-fits : d + (e - p) ≤ 253 → ScopeKnown w p e d 0
   size-fits l = record { known = λ U h n. fitting refl (omega (arith, scope-lift n 0 U, scope-size U, h .place)); bound = omega arith }
 
-  pub scope-exact : {n : ℕ} {u : Bool} → Measured w p e n u → ScopeKnown w p e d n
+  pub scope-exact : {n : ℕ} → Measured w p e n → ScopeKnown w p e d n
   scope-exact m = record {
     known = λ U h n. exact (m .scope U h ∙ sym (scope-lift n 0 U));
     bound = omega (arith, m .scope (g .term) (g .stands), scope-size (g .term), g .stands .place, g .short);
@@ -209,7 +208,7 @@ module _ {file t w ws ys : List ℕ} {base : ℕ} {s : Copying} {f : FrameRecord
         pub app-ytop : s .ytop < 4096
         app-ytop = omega (arith, queue-length (z .copied), o .fits, positive B, z .ytops)
 
-        module _ {y : Extent} {n : ℕ} {u : Bool} (g : WaitingExtent ys 0 (s .ytop) y) (c : Measured w (s .from + 1) m n u) where
+        module _ {y : Extent} {n : ℕ} (g : WaitingExtent ys 0 (s .ytop) y) (c : Measured w (s .from + 1) m n) where
           size-total : y .size + (m - s .from) ≡ suc (size (lift (s .shift) (s .cut) (two-app .one))) + waitingSize (termsOf Q)
           size-total = omega (arith, g .size-is w (f .len) (f .end) Q (z .copied), first .place, size-lift (s .shift) (s .cut) (two-app .one))
 

@@ -25,7 +25,8 @@ use frames::end_of;
 use frames::entry_at_by;
 use frames::push;
 use indices::larger;
-use indices::measure;
+use indices::scope_in;
+use letters::Letters;
 use waiting::Queue;
 use waiting::Slot;
 use waiting::fits;
@@ -100,8 +101,7 @@ pub fn scope_or_fit(work: &Work, p: usize, e: usize, d: usize) -> usize
         return 0;
     }
     let all = &work[..];
-    let m = measure(all, p, e);
-    m.scope
+    scope_in(all, p, e)
 }
 
 // ---- Copied text.
@@ -234,11 +234,11 @@ fn app_turn(
     let from = s.from;
     let m = end_of(deltas, work, from + 1);
     let all = &work[..];
-    let z = measure(all, from + 1, m);
+    let z = scope_in(all, from + 1, m);
     let y = waiting_extent(ys, 0, s.ytop);
     let v = Slot {
         size: y.size + (m - from),
-        scope: larger(z.scope, y.scope),
+        scope: larger(z, y.scope),
         depth: len,
         place: from,
         end: m,
@@ -334,8 +334,8 @@ fn pair_from_w(
     work: &mut Work,
     ws: &Queue,
     ys: &Queue,
-    left: &mut [u8; 4096],
-    right: &mut [u8; 4096],
+    left: &mut Letters,
+    right: &mut Letters,
     base: usize,
     place: usize,
     s: Copying,
@@ -374,8 +374,8 @@ fn abs_turn(
     work: &mut Work,
     ws: &Queue,
     ys: &Queue,
-    left: &mut [u8; 4096],
-    right: &mut [u8; 4096],
+    left: &mut Letters,
+    right: &mut Letters,
     base: usize,
     place: usize,
     s: Copying,
@@ -543,8 +543,8 @@ pub fn copied(
     work: &mut Work,
     ws: &Queue,
     ys: &mut Queue,
-    left: &mut [u8; 4096],
-    right: &mut [u8; 4096],
+    left: &mut Letters,
+    right: &mut Letters,
     base: usize,
     place: usize,
     s: Copying,

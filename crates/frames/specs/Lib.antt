@@ -1,5 +1,4 @@
 -- The definitions and promises of this crate.
 -- Assumes nothing.
 pub mod Stored
-pub mod Body
 pub mod Claims

@@ -5,6 +5,5 @@ pub mod Stacked
 pub mod Pending
 pub mod Walk
 pub mod Pass
-pub mod Lowering
-pub mod Places
+pub mod Lifted
 pub mod Replace

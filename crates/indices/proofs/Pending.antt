@@ -1,20 +1,17 @@
 -- What a pass over a term has before it: the parts that are still to be read, each with the abstractors of the term in scope at it.
 -- Each law says what reading one byte does.
 -- Assumes nothing.
-use Prim.Native.Nat.{ℕ, suc, _+_, _-_, _≤_, _<_, max}
-use mathlib.Core.Path.{_≡_, refl}
-use mathlib.Core.Bool.{Bool, true, false, _||_, or-assoc}
-use mathlib.Core.Option.{Option, none, some}
+use Prim.Native.Nat.{ℕ, suc, _+_, _≤_, _<_, max}
+use mathlib.Core.Path.{_≡_, refl, ap}
+use mathlib.Core.Bool.{cond}
 use mathlib.Core.List.{List, [], _∷_, _++_, append-assoc}
 use native.Mathlib.Omega.{arith}
+use lib.Dec.{ltb}
 use lib.ListN.{length, length-append}
-use borrow.Author.Tests.{le-leb, lt-leb, lt-ltb, eq-eqb, ne-eqb}
-use Rattle.calculus.specs.Terms.{Term, tau, var, app, abs}
-use Rattle.calculus.specs.Steps.{lower, lowerVar, both}
-use Rattle.calculus.proofs.Lift.{lo, hi, cmp}
+use borrow.Author.Tests.{le-leb, lt-ltb}
+use Rattle.calculus.specs.Terms.{Term, tau, var, app, abs, liftIndex, lift}
 use Rattle.code.specs.Code.{encode, Coded, coded-tau, coded-var, coded-app, coded-abs}
 use Rattle.code.specs.Scope.{scope}
-use Rattle.indices.specs.Shift.{shift, shiftByte, uses}
 use Rattle.indices.specs.Stack.{bodyScope, after}
 
 -- A part to be read, with d abstractors in scope.
@@ -35,6 +32,11 @@ byte (var k) = k
 byte (app K B) = 0xfe
 byte (abs U B) = 0xff
 
+-- A byte with d abstractors of its term in scope, lifted by n.
+unfoldable pub liftByte : ℕ → ℕ → ℕ → ℕ
+unfolding liftIndex
+liftByte n d b = cond (ltb b 0xfe) (liftIndex n d b) b
+
 -- ---- Figures of the parts.
 unfoldable pub text : List Item → List ℕ
 text [] = []
@@ -48,17 +50,9 @@ unfoldable pub deepest : List Item → ℕ
 deepest [] = 0
 deepest (item {t} d f ∷ W) = max (d + scope t) (deepest W)
 
-unfoldable pub isNone : Option Term → Bool
-isNone none = true
-isNone (some t) = false
-
-unfoldable pub used : List Item → Bool
-used [] = false
-used (item {t} d f ∷ W) = isNone (lower d t) || used W
-
-unfoldable pub shiftedText : ℕ → ℕ → List Item → List ℕ
-shiftedText up down [] = []
-shiftedText up down (item {t} d f ∷ W) = encode (shift up down d t) ++ shiftedText up down W
+unfoldable pub liftedText : ℕ → List Item → List ℕ
+liftedText n [] = []
+liftedText n (item {t} d f ∷ W) = encode (lift n d t) ++ liftedText n W
 
 -- ---- Reading a byte.
 pub text-next : {t : Term} (d : ℕ) (f : Coded t) (W : List Item) → text (item d f ∷ W) ≡ byte t ∷ text (next d f W)
@@ -69,7 +63,7 @@ text-next d (coded-app f g) W = simp append-assoc
 text-next d (coded-abs f g) W = simp append-assoc
 
 -- An index is no applicator or abstractor.
-low : {k : ℕ} → k ≤ 253 → k < 254
+pub low : {k : ℕ} → k ≤ 253 → k < 254
 low q = omega arith
 
 pub scopes-next : {t : Term} (d : ℕ) (f : Coded t) (W : List Item) → scopes (next d f W) ≡ after (byte t) (d ∷ scopes W)
@@ -86,37 +80,12 @@ deepest-next d (coded-var p q) W = omega arith
 deepest-next d (coded-app f g) W = omega arith
 deepest-next d (coded-abs f g) W = omega arith
 
-none-both : (c : Term → Term → Term) (x y : Option Term) → isNone (both c x y) ≡ isNone x || isNone y
-unfolding isNone both
-none-both c none y = refl
-none-both c (some a) none = refl
-none-both c (some a) (some b) = refl
-
-none-var : (d k : ℕ) → k ≤ 253 → isNone (lowerVar d k) ≡ uses d k
-unfolding isNone lowerVar uses
-none-var d k q = rw (lt-ltb k 254 (low q)) (elim (cmp k d) [
-  | lo h ↦ rw (le-leb k d h, ne-eqb k (suc d) (λ e. omega arith))
-  | hi h ↦ elim (cmp k (suc d)) [
-    | lo g ↦ rw (lt-leb k d h, le-leb k (suc d) g, eq-eqb k (suc d) (omega arith))
-    | hi g ↦ rw (lt-leb k d h, lt-leb k (suc d) g, ne-eqb k (suc d) (λ e. omega arith))
-  ]
-])
-
-pub used-next : {t : Term} (d : ℕ) (f : Coded t) (W : List Item) → used (item d f ∷ W) ≡ uses d (byte t) || used (next d f W)
-unfolding used next byte lower uses isNone
-used-next d coded-tau W = rw (ne-eqb 0 (suc d) (λ e. omega arith))
-used-next d (coded-var {k} p q) W = rw (none-var d k q)
-used-next d (coded-app {K} {B} f g) W = rw (none-both app (lower d K) (lower d B), or-assoc (isNone (lower d K)) (isNone (lower d B)) (used W))
-used-next d (coded-abs {U} {B} f g) W = rw (none-both abs (lower d U) (lower (suc d) B), or-assoc (isNone (lower d U)) (isNone (lower (suc d) B)) (used W))
-
-module _ (up down : ℕ) where
-  pub shifted-next : {t : Term} (d : ℕ) (f : Coded t) (W : List Item)
-      → shiftedText up down (item d f ∷ W) ≡ shiftByte up down d (byte t) ∷ shiftedText up down (next d f W)
-  unfolding shiftedText next byte shift shiftByte encode
-  shifted-next d coded-tau W = rw (le-leb 0 d (omega arith))
-  shifted-next d (coded-var {k} p q) W = rw (lt-ltb k 254 (low q))
-  shifted-next d (coded-app f g) W = simp append-assoc
-  shifted-next d (coded-abs f g) W = simp append-assoc
+pub lifted-next : {t : Term} (n d : ℕ) (f : Coded t) (W : List Item) → liftedText n (item d f ∷ W) ≡ liftByte n d (byte t) ∷ liftedText n (next d f W)
+unfolding liftedText next byte lift liftByte liftIndex encode
+lifted-next n d coded-tau W = rw (le-leb 0 d (omega arith))
+lifted-next n d (coded-var {k} p q) W = rw (lt-ltb k 254 (low q))
+lifted-next n d (coded-app f g) W = simp append-assoc
+lifted-next n d (coded-abs f g) W = simp append-assoc
 
 -- Each part has a byte.
 positive : (t : Term) → 1 ≤ length (encode t)
@@ -126,7 +95,12 @@ positive (var k) = omega arith
 positive (app K B) = omega arith
 positive (abs U B) = omega arith
 
-pub count-text : (W : List Item) → length (scopes W) ≤ length (text W)
-unfolding scopes text
+pub count-text : (W : List Item) → length W ≤ length (text W)
+unfolding text
 count-text [] = omega arith
 count-text (item {t} d f ∷ W) = simp length-append (omega (arith, count-text W, positive t))
+
+pub length-scopes : (W : List Item) → length (scopes W) ≡ length W
+unfolding scopes
+length-scopes [] = refl
+length-scopes (item d f ∷ W) = ap suc (length-scopes W)

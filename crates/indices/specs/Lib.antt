@@ -1,5 +1,4 @@
 -- The definitions and contracts of this crate.
 -- Assumes nothing.
-pub mod Shift
 pub mod Stack
 pub mod Passes

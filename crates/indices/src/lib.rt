@@ -1,17 +1,15 @@
-// Passes over the bytes of a term that stands in a slice: measuring it, and moving the indices that point outside it.
+// Passes over the bytes of a term that stands in a slice: its scope, and lifting it in place.
 // Each reads the bytes once, forward, with a stack of scopes in place of recursion.
 ghost use mathlib.Core.Path.{_≡_};
-ghost use mathlib.Core.Bool.{_||_};
-ghost use Prim.Native.Nat.{_≤_, _<_, max};
-ghost use Rattle.calculus.specs.Terms.{lift};
-ghost use Rattle.indices.specs.Shift.{shift, shiftByte, uses};
+ghost use Prim.Native.Nat.{_<_, max};
+ghost use Rattle.calculus.specs.Terms.{liftIndex, lift};
 ghost use Rattle.indices.specs.Stack.{bodyScope, Roomy, StackReady, Advanced};
-ghost use Rattle.indices.specs.Passes.{ShortTerm, Measured, Replaced, Liftable, LiftableAbove, Lowerable, Lowered, Shiftable};
+ghost use Rattle.indices.specs.Passes.{ShortTerm, Measured, Replaced, Liftable, LiftableAbove};
 
-// The most abstractors of a term that any of its symbols has in scope, and whether index 1 of its surroundings is used.
-pub struct Measurement {
+// The parts of a term that are still to be read: the abstractors in scope at the one being read, and how many they are.
+pub struct Parts {
     pub scope: usize,
-    pub used: bool,
+    pub count: usize,
 }
 
 // The index that a variable's byte is.
@@ -35,137 +33,111 @@ pub fn larger(x: usize, y: usize) -> usize
 }
 
 // How many abstractors are in scope at the second part of an applicator or an abstractor.
-fn body_scope(b: u8, d: u16) -> u16
-    requires { ⌜ d < 65535 ⌝ }
-    ensures { λ r. ⌜ r ≡ bodyScope b d ⌝ }
+fn body_scope(b: u8, scope: usize) -> u16
+    requires { ⌜ scope < 65535 ⌝ }
+    ensures { λ r. ⌜ r ≡ bodyScope b scope ⌝ }
 {
-    if b == 0xff { d + 1 } else { d }
+    if b == 0xff {
+        (scope + 1) as u16
+    } else {
+        scope as u16
+    }
 }
 
-// The stack after the byte b, whose scope is the latest on it.
-fn advance(stack: &mut [u16], sp: usize, b: u8) -> usize
-    requires { ⌜ StackReady (now stack) sp ⌝ }
-    ensures { λ r. ⌜ Advanced (now (stack .entry)) (now (stack .exit)) sp r b ⌝ }
+// The parts after the byte b. The stack holds the scopes of those after the one being read.
+pub fn advance(stack: &mut [u16], scope: usize, count: usize, b: u8) -> Parts
+    requires { ⌜ StackReady (now stack) scope count ⌝ }
+    ensures { λ r. ⌜ Advanced (now (stack .entry)) (now (stack .exit)) scope count (r .scope) (r .count) b ⌝ }
 {
     if b < 0xfe {
-        return sp - 1;
+        let d = stack[count - 1];
+        return Parts {
+            scope: scope_of(d),
+            count: count - 1,
+        };
     }
-    let d = stack[sp - 1];
-    stack[sp - 1] = body_scope(b, d);
-    stack[sp] = d;
-    sp + 1
+    stack[count] = body_scope(b, scope);
+    Parts {
+        scope: scope,
+        count: count + 1,
+    }
 }
 
-// Whether index 1 of the surroundings was used before or is used at the byte b.
-fn used_by(used: bool, b: u8, d: usize) -> bool
-    requires { ⌜ d < 65535 ⌝ }
-    ensures { λ r. ⌜ r ≡ (used || uses d b) ⌝ }
+fn scope_with(s: &[u8], from: usize, to: usize, stack: &mut [u16]) -> usize
+    requires { ⌜ ShortTerm (now s) from to × Roomy (now stack) from to ⌝ }
+    ensures { λ r. ⌜ Measured (now (s .entry)) from to r ⌝ }
 {
-    if used {
-        return true;
-    }
-    if b < 0xfe {
-        return index_of(b) == d + 1;
-    }
-    false
-}
-
-fn measure_with(s: &[u8], from: usize, to: usize, stack: &mut [u16]) -> Measurement
-    requires { ⌜ ShortTerm (now s) from to × Roomy (now stack) from to 0 ⌝ }
-    ensures { λ r. ⌜ Measured (now (s .entry)) from to (r .scope) (r .used) ⌝ }
-{
-    let mut sp: usize = 1;
     let mut scope: usize = 0;
-    let mut used = false;
+    let mut count: usize = 1;
+    let mut most: usize = 0;
     let mut i = from;
     while i < to {
-        let b = s[i];
-        let d = scope_of(stack[sp - 1]);
-        scope = larger(scope, d);
-        used = used_by(used, b, d);
-        sp = advance(stack, sp, b);
+        most = larger(most, scope);
+        let parts = advance(stack, scope, count, s[i]);
+        scope = parts.scope;
+        count = parts.count;
         i += 1;
     }
-    Measurement {
-        scope: scope,
-        used: used,
-    }
+    most
 }
 
+// The most abstractors of the term that stands from `from` up to `to` that any of its symbols has in scope.
 // A short term needs a small stack only: filling a large one would cost more than the pass.
-pub fn measure(s: &[u8], from: usize, to: usize) -> Measurement
+pub fn scope_in(s: &[u8], from: usize, to: usize) -> usize
     requires { ⌜ ShortTerm (now s) from to ⌝ }
-    ensures { λ r. ⌜ Measured (now (s .entry)) from to (r .scope) (r .used) ⌝ }
+    ensures { λ r. ⌜ Measured (now (s .entry)) from to r ⌝ }
 {
     if to - from < 127 {
         let mut small: [u16; 64] = [0; 64];
-        return measure_with(s, from, to, &mut small[..]);
+        return scope_with(s, from, to, &mut small[..]);
     }
     let mut stack: [u16; 2049] = [0; 2049];
-    measure_with(s, from, to, &mut stack[..])
+    scope_with(s, from, to, &mut stack[..])
 }
 
-// The byte b with d abstractors of its term in scope, moved if it is an index that points outside.
-fn shifted(b: u8, d: usize, up: usize, down: usize) -> u8
-    requires { ⌜ (shiftByte up down d b < 256) × (down ≤ 1) ⌝ }
-    ensures { λ r. ⌜ r ≡ shiftByte up down d b ⌝ }
+// The index b with d abstractors of its term in scope, lifted by n.
+fn lifted_index(b: u8, d: usize, n: usize) -> u8
+    requires { ⌜ liftIndex n d b < 256 ⌝ }
+    ensures { λ r. ⌜ r ≡ liftIndex n d b ⌝ }
 {
-    if b >= 0xfe {
-        return b;
-    }
     let k = index_of(b);
-    if k <= d {
-        return b;
-    }
-    (k - down + up) as u8
+    if k > d { (k + n) as u8 } else { b }
 }
 
-// Each index above c that points outside the term has `up` added and `down` taken away.
-fn shift_with(
-    s: &mut [u8],
-    from: usize,
-    to: usize,
-    up: usize,
-    down: usize,
-    c: u16,
-    stack: &mut [u16],
-)
-    requires { ⌜ Shiftable (now s) from to up down c × Roomy (now stack) from to c ⌝ }
-    ensures { λ r. ⌜ Replaced (shift up down c) (now (s .entry)) (now (s .exit)) from to ⌝ }
+fn lift_with(s: &mut [u8], from: usize, to: usize, n: usize, c: usize, stack: &mut [u16])
+    requires { ⌜ LiftableAbove (now s) from to n c × Roomy (now stack) from to ⌝ }
+    ensures { λ r. ⌜ Replaced (lift n c) (now (s .entry)) (now (s .exit)) from to ⌝ }
 {
-    let mut sp: usize = 1;
+    let mut scope = c;
+    let mut count: usize = 1;
     let mut i = from;
     while i < to {
         let b = s[i];
-        let d = scope_of(stack[sp - 1]);
-        s[i] = shifted(b, d, up, down);
-        sp = advance(stack, sp, b);
+        if b < 0xfe {
+            s[i] = lifted_index(b, scope, n);
+        }
+        let parts = advance(stack, scope, count, b);
+        scope = parts.scope;
+        count = parts.count;
         i += 1;
     }
 }
 
-fn shift_indices(s: &mut [u8], from: usize, to: usize, up: usize, down: usize, c: u16)
-    requires { ⌜ Shiftable (now s) from to up down c ⌝ }
-    ensures { λ r. ⌜ Replaced (shift up down c) (now (s .entry)) (now (s .exit)) from to ⌝ }
-{
-    if to - from < 127 {
-        let mut small: [u16; 64] = [c; 64];
-        shift_with(s, from, to, up, down, c, &mut small[..]);
-        return;
-    }
-    let mut stack: [u16; 2049] = [c; 2049];
-    shift_with(s, from, to, up, down, c, &mut stack[..]);
-}
-
 // The term that stands from `from` up to `to` is lifted by n with the cut-off c.
-pub fn lift_above(s: &mut [u8], from: usize, to: usize, n: usize, c: u16)
+pub fn lift_above(s: &mut [u8], from: usize, to: usize, n: usize, c: usize)
     requires { ⌜ LiftableAbove (now s) from to n c ⌝ }
     ensures { λ r. ⌜ Replaced (lift n c) (now (s .entry)) (now (s .exit)) from to ⌝ }
 {
     if n == 0 {
         return;
     }
-    shift_indices(s, from, to, n, 0, c);
+    if to - from < 127 {
+        let mut small: [u16; 64] = [0; 64];
+        lift_with(s, from, to, n, c, &mut small[..]);
+        return;
+    }
+    let mut stack: [u16; 2049] = [0; 2049];
+    lift_with(s, from, to, n, c, &mut stack[..]);
 }
 
 // The term that stands from `from` up to `to` is lifted by n.
@@ -174,12 +146,4 @@ pub fn lift_in_place(s: &mut [u8], from: usize, to: usize, n: usize)
     ensures { λ r. ⌜ Replaced (lift n 0) (now (s .entry)) (now (s .exit)) from to ⌝ }
 {
     lift_above(s, from, to, n, 0);
-}
-
-// The term that stands from `from` up to `to` does not use index 1 of its surroundings, and the indices above are lowered by 1.
-pub fn lower_in_place(s: &mut [u8], from: usize, to: usize)
-    requires { ⌜ Lowerable (now s) from to ⌝ }
-    ensures { λ r. ⌜ Lowered (now (s .entry)) (now (s .exit)) from to ⌝ }
-{
-    shift_indices(s, from, to, 0, 1, 0);
 }

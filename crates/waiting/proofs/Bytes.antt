@@ -8,7 +8,7 @@ use native.Mathlib.Numerals.{add-one}
 use lib.ListN.{length, getD, set, take, drop, length-set, length-take, length-drop, take-append-drop}
 use lib.Seq.{getD-set-same, getD-set-other, ext-getD, getD-take, getD-drop}
 use Rattle.calculus.specs.Terms.{Term, size, lift}
-use Rattle.calculus.proofs.Lift.{lo, hi, cmp, size-lift, lift-zero}
+use Rattle.calculus.proofs.Lift.{lo, hi, cmp, lift-zero}
 use Rattle.code.specs.Limits.{longestTerm, longestState}
 use Rattle.code.specs.Code.{Coded}
 use Rattle.code.specs.Claims.{Stands}
@@ -134,8 +134,8 @@ module _ (mark : ℕ) {p e n c k to : ℕ} {s w : List ℕ} (x : Writable s w p 
         twice = lifted-stands k 0 q once (x .second)
 
         front : Agree w₁ w₃ 0 (to + 1)
-        front = agree-trans (agree-take (to + 1) (before-same copied (r .bytes (x .raw) copied) (x .first) (size-lift n c (x .raw)) (to + 1) (omega arith)))
-            (agree-take (to + 1) (before-same once (q .bytes (lift n c (x .raw)) once) (x .second) (size-lift k 0 (lift n c (x .raw))) (to + 1) (omega arith)))
+        front = agree-trans (agree-take (to + 1) (before-same r copied (to + 1) (omega arith)))
+            (agree-take (to + 1) (before-same q once (to + 1) (omega arith)))
 
         pub puts : Puts mark s w w₃ p e n c k to (to + 1 + (e - p))
         puts = record {

@@ -150,7 +150,7 @@ pub fn write_from_text(
     let end = to + 1 + size;
     work[to] = mark;
     copy_from(t, p, size, work, to + 1);
-    lift_above(work, to + 1, end, n, c as u16);
+    lift_above(work, to + 1, end, n, c);
     lift_in_place(work, to + 1, end, m);
     end
 }
@@ -173,7 +173,7 @@ pub fn write_from_work(
     let end = to + 1 + size;
     work[to] = mark;
     copy_in(work, p, size, to + 1);
-    lift_above(work, to + 1, end, n, c as u16);
+    lift_above(work, to + 1, end, n, c);
     lift_in_place(work, to + 1, end, m);
     end
 }

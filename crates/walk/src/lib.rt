@@ -27,6 +27,7 @@ use frames::empty_frame;
 use frames::entry_at_by;
 use frames::push;
 use indices::larger;
+use letters::Letters;
 use waiting::Extent;
 use waiting::QUEUE_LENGTH;
 use waiting::Queue;
@@ -125,8 +126,8 @@ fn pass_pair(
     work: &mut Work,
     ws: &Queue,
     ys: &Queue,
-    left: &mut [u8; 4096],
-    right: &mut [u8; 4096],
+    left: &mut Letters,
+    right: &mut Letters,
     base: usize,
     top: usize,
     at: usize,
@@ -180,8 +181,8 @@ fn pass(
     work: &mut Work,
     ws: &mut Queue,
     ys: &Queue,
-    left: &mut [u8; 4096],
-    right: &mut [u8; 4096],
+    left: &mut Letters,
+    right: &mut Letters,
     base: usize,
     top: usize,
     at: usize,
@@ -235,8 +236,8 @@ fn variable(
     work: &mut Work,
     ws: &Queue,
     ys: &mut Queue,
-    left: &mut [u8; 4096],
-    right: &mut [u8; 4096],
+    left: &mut Letters,
+    right: &mut Letters,
     base: usize,
     top: usize,
     at: usize,
@@ -289,8 +290,8 @@ fn own_end(
     work: &mut Work,
     ws: &Queue,
     ys: &mut Queue,
-    left: &mut [u8; 4096],
-    right: &mut [u8; 4096],
+    left: &mut Letters,
+    right: &mut Letters,
     base: usize,
     top: usize,
     at: usize,
@@ -343,8 +344,8 @@ fn term(
     work: &mut Work,
     ws: &mut Queue,
     ys: &mut Queue,
-    left: &mut [u8; 4096],
-    right: &mut [u8; 4096],
+    left: &mut Letters,
+    right: &mut Letters,
     base: usize,
     top: usize,
     at: usize,
@@ -441,8 +442,8 @@ fn inside(
     work: &mut Work,
     ws: &mut Queue,
     ys: &mut Queue,
-    left: &mut [u8; 4096],
-    right: &mut [u8; 4096],
+    left: &mut Letters,
+    right: &mut Letters,
     top: usize,
     at: usize,
     fr: FrameRecord,
@@ -521,8 +522,8 @@ pub fn walk_term(file: &[u8], t: &[u8], at: usize) -> Walked
     let mut work: Work = [0; LONGEST_STATE];
     let mut ws: Queue = [0; QUEUE_LENGTH];
     let mut ys: Queue = [0; QUEUE_LENGTH];
-    let mut left: [u8; 4096] = [0; LONGEST_TERM];
-    let mut right: [u8; 4096] = [0; LONGEST_TERM];
+    let mut left: Letters = [0; LONGEST_TERM];
+    let mut right: Letters = [0; LONGEST_TERM];
     let mut sizes: Extents = [0; LONGEST_TERM];
     let mut scopes: Extents = [0; LONGEST_TERM];
     let deltas = table();

@@ -1,19 +1,20 @@
 -- `calls::step_accepted` meets its contract.
 -- Assumes nothing.
 use mathlib.Core.Path.{refl}
-use Rattle.calls.proofs.Writing.{some-body, step-unmet, step-large, step-done, step-length}
+use mathlib.Core.List.{[]}
+use Rattle.calls.proofs.Writing.{some-held, step-answers, answers-unmet, answers-large, answers-letters, answers-done}
 use borrow.Author.Needs.{needs}
 use Rattle.calls.proofs.step_accepted.Statement.{statement}
 use Rattle.calls.proofs.step_accepted.Tie as tie
 
 open-body-requires : tie.Need-open-body-requires
-open-body-requires c κs = search needs
+open-body-requires c κs = (c .before .before .before .pre, refl)
 
 empty-frame-requires : tie.Need-empty-frame-requires
 empty-frame-requires c κs = search needs
 
 step-in-place-requires : tie.Need-step-in-place-requires
-step-in-place-requires c κs = some-body (c .before .before .before .before .before .before .pre) (c .before .before .before .open-body .ensures) (c .before .before .empty-frame .ensures) refl
+step-in-place-requires c κs = some-held (c .before .before .before .before .before .before .before .pre) (c .before .before .before .open-body .ensures) (c .before .before .empty-frame .ensures) refl
 
 enum-told : tie.Need-enum-told
 enum-told c = search needs
@@ -25,19 +26,19 @@ enum-known-stepped : tie.Need-enum-known-stepped
 enum-known-stepped c = search needs
 
 deliver-requires : tie.Need-deliver-requires
-deliver-requires c κs = step-length (c .before .before .before .before .before .before .before .before .before .before .before .before .pre) (c .before .before .before .before .before .before .before .before .before .open-body .ensures) (c .before .before .before .before .before .before .before .before .empty-frame .ensures) refl (c .before .before .before .before .before .step-in-place .ensures) (c .before .before .before .stepped .given .1)
+deliver-requires c κs = let u = answers-letters (step-answers (c .before .before .before .before .before .before .before .before .before .before .before .before .before .pre) (c .before .before .before .before .before .before .before .before .before .open-body .ensures) (c .before .before .before .before .before .before .before .before .empty-frame .ensures) refl [] (c .before .before .before .before .before .step-in-place .ensures)) (c .before .before .before .stepped .given .1) in (u .0, u .1)
 
 returns : tie.Need-returns
-returns c = step-unmet (c .before .before .before .before .before .before .before .before .before .pre) (c .before .before .before .before .before .before .open-body .ensures) (c .before .before .before .before .before .empty-frame .ensures) refl (c .before .before .step-in-place .ensures) _ (c .enum-told .given .1)
+returns c = answers-unmet (step-answers (c .before .before .before .before .before .before .before .before .before .before .pre) (c .before .before .before .before .before .before .open-body .ensures) (c .before .before .before .before .before .empty-frame .ensures) refl _ (c .before .before .step-in-place .ensures)) (c .enum-told .given .1)
 
 returns-2 : tie.Need-returns-2
-returns-2 c = step-large (c .before .before .before .before .before .before .before .before .before .pre) (c .before .before .before .before .before .before .open-body .ensures) (c .before .before .before .before .before .empty-frame .ensures) refl (c .before .before .step-in-place .ensures) _ (c .enum-told2 .given .1)
+returns-2 c = answers-large (step-answers (c .before .before .before .before .before .before .before .before .before .before .pre) (c .before .before .before .before .before .before .open-body .ensures) (c .before .before .before .before .before .empty-frame .ensures) refl _ (c .before .before .step-in-place .ensures)) (c .enum-told2 .given .1)
 
 same-length : tie.Need-same-length
 same-length c = search needs
 
 returns-3 : tie.Need-returns-3
-returns-3 c = step-done (c .before .before .before .before .before .before .before .before .before .before .before .before .before .before .before .pre) (c .before .before .before .before .before .before .before .before .before .before .before .before .open-body .ensures) (c .before .before .before .before .before .before .before .before .before .before .before .empty-frame .ensures) refl (c .before .before .before .before .before .before .before .before .step-in-place .ensures) _ (c .before .before .before .before .before .before .stepped .given .1) (c .before .before .deliver .ensures)
+returns-3 c = answers-done (step-answers (c .before .before .before .before .before .before .before .before .before .before .before .before .before .before .before .before .pre) (c .before .before .before .before .before .before .before .before .before .before .before .before .open-body .ensures) (c .before .before .before .before .before .before .before .before .before .before .before .empty-frame .ensures) refl _ (c .before .before .before .before .before .before .before .before .step-in-place .ensures)) (c .before .before .before .before .before .before .stepped .given .1) (c .before .before .deliver .ensures)
 
 pub step-accepted-spec : {M : Type 1} → statement M
 step-accepted-spec =

@@ -1,19 +1,20 @@
 -- `calls::type_accepted` meets its contract.
 -- Assumes nothing.
 use mathlib.Core.Path.{refl}
-use Rattle.calls.proofs.Writing.{some-body, type-none, type-large, type-done, type-length}
+use mathlib.Core.List.{[]}
+use Rattle.calls.proofs.Writing.{some-held, type-answers, answers-unmet, answers-large, answers-letters, answers-done}
 use borrow.Author.Needs.{needs}
 use Rattle.calls.proofs.type_accepted.Statement.{statement}
 use Rattle.calls.proofs.type_accepted.Tie as tie
 
 open-body-requires : tie.Need-open-body-requires
-open-body-requires c κs = search needs
+open-body-requires c κs = (c .before .before .before .pre, refl)
 
 empty-frame-requires : tie.Need-empty-frame-requires
 empty-frame-requires c κs = search needs
 
 type-in-place-requires : tie.Need-type-in-place-requires
-type-in-place-requires c κs = some-body (c .before .before .before .before .before .before .pre) (c .before .before .before .open-body .ensures) (c .before .before .empty-frame .ensures) refl
+type-in-place-requires c κs = some-held (c .before .before .before .before .before .before .before .pre) (c .before .before .before .open-body .ensures) (c .before .before .empty-frame .ensures) refl
 
 enum-told : tie.Need-enum-told
 enum-told c = search needs
@@ -25,19 +26,19 @@ enum-known-typed : tie.Need-enum-known-typed
 enum-known-typed c = search needs
 
 deliver-requires : tie.Need-deliver-requires
-deliver-requires c κs = type-length (c .before .before .before .before .before .before .before .before .before .before .before .before .pre) (c .before .before .before .before .before .before .before .before .before .open-body .ensures) (c .before .before .before .before .before .before .before .before .empty-frame .ensures) refl (c .before .before .before .before .before .type-in-place .ensures) (c .before .before .before .typed .given .1)
+deliver-requires c κs = let u = answers-letters (type-answers (c .before .before .before .before .before .before .before .before .before .before .before .before .before .pre) (c .before .before .before .before .before .before .before .before .before .open-body .ensures) (c .before .before .before .before .before .before .before .before .empty-frame .ensures) refl [] (c .before .before .before .before .before .type-in-place .ensures)) (c .before .before .before .typed .given .1) in (u .0, u .1)
 
 returns : tie.Need-returns
-returns c = type-none (c .before .before .before .before .before .before .before .before .before .pre) (c .before .before .before .before .before .before .open-body .ensures) (c .before .before .before .before .before .empty-frame .ensures) refl (c .before .before .type-in-place .ensures) _ (c .enum-told .given .1)
+returns c = answers-unmet (type-answers (c .before .before .before .before .before .before .before .before .before .before .pre) (c .before .before .before .before .before .before .open-body .ensures) (c .before .before .before .before .before .empty-frame .ensures) refl _ (c .before .before .type-in-place .ensures)) (c .enum-told .given .1)
 
 returns-2 : tie.Need-returns-2
-returns-2 c = type-large (c .before .before .before .before .before .before .before .before .before .pre) (c .before .before .before .before .before .before .open-body .ensures) (c .before .before .before .before .before .empty-frame .ensures) refl (c .before .before .type-in-place .ensures) _ (c .enum-told2 .given .1)
+returns-2 c = answers-large (type-answers (c .before .before .before .before .before .before .before .before .before .before .pre) (c .before .before .before .before .before .before .open-body .ensures) (c .before .before .before .before .before .empty-frame .ensures) refl _ (c .before .before .type-in-place .ensures)) (c .enum-told2 .given .1)
 
 same-length : tie.Need-same-length
 same-length c = search needs
 
 returns-3 : tie.Need-returns-3
-returns-3 c = type-done (c .before .before .before .before .before .before .before .before .before .before .before .before .before .before .before .pre) (c .before .before .before .before .before .before .before .before .before .before .before .before .open-body .ensures) (c .before .before .before .before .before .before .before .before .before .before .before .empty-frame .ensures) refl (c .before .before .before .before .before .before .before .before .type-in-place .ensures) _ (c .before .before .before .before .before .before .typed .given .1) (c .before .before .deliver .ensures)
+returns-3 c = answers-done (type-answers (c .before .before .before .before .before .before .before .before .before .before .before .before .before .before .before .before .pre) (c .before .before .before .before .before .before .before .before .before .before .before .before .open-body .ensures) (c .before .before .before .before .before .before .before .before .before .before .before .empty-frame .ensures) refl _ (c .before .before .before .before .before .before .before .before .type-in-place .ensures)) (c .before .before .before .before .before .before .typed .given .1) (c .before .before .deliver .ensures)
 
 pub type-accepted-spec : {M : Type 1} → statement M
 type-accepted-spec =

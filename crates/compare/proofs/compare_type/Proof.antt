@@ -1,52 +1,56 @@
 -- `compare::compare_type` meets its contract.
 -- Assumes nothing.
-use mathlib.Core.Path.{refl}
+use mathlib.Core.Path.{_∙_}
 use native.Mathlib.Omega.{arith}
 use borrow.Author.Tests.{not-true, not-false}
 use Rattle.code.proofs.Parts.{stands-start, stands-end}
 use Rattle.fields.proofs.Groups.{some-left}
-use Rattle.compare.proofs.Bodies.{fitting, unfitting}
-use Rattle.compare.proofs.Answers.{domain-part, domain-loads, two-sides, typed-no-group, typed-large-domain, typed-sides}
+use Rattle.compare.proofs.Bodies.{answered}
+use Rattle.compare.proofs.Answers.{domain-loads, two-sides, typed-no-group, typed-large-domain, typed-sides}
+use borrow.Author.Needs.{needs}
 use Rattle.compare.proofs.compare_type.Statement.{statement}
 use Rattle.compare.proofs.compare_type.Tie as tie
+use Rattle.compare.proofs.compare_sides.Reads as compare-sides-reads
+use Rattle.compare.proofs.load.Reads as load-reads
+use Rattle.fields.proofs.group_at.Reads as group-at-reads
 
 returns : tie.Need-returns
 returns c = (typed-no-group (c .before .before .pre .0 .comparing) (c .if1 .taken), c .before .before .pre .1)
 
-add-part-fits : tie.Need-add-part-fits
-add-part-fits c = let x = c .before .before .pre .0 .comparing in omega (arith, stands-start (x .domain-stands), stands-end (x .domain-stands), x .stored .work)
-
-part-fits-requires : tie.Need-part-fits-requires
-part-fits-requires c κs = let x = c .before .before .pre .0 .comparing in (domain-part x, x .stored .few)
-
-returns-2 : tie.Need-returns-2
-returns-2 c = (typed-large-domain (c .before .before .before .before .pre .0 .comparing) (c .before .before .if1 .left) (unfitting (not-true _ (c .if2 .taken)) (c .before .part-fits .ensures)), c .before .before .before .before .pre .1)
-
 add-load : tie.Need-add-load
-add-load c = let x = c .before .before .before .before .pre .0 .comparing in omega (arith, stands-start (x .domain-stands), stands-end (x .domain-stands), x .stored .work)
+add-load c = search needs
 
 load-requires : tie.Need-load-requires
-load-requires c κs = domain-loads (c .before .before .before .before .before .pre .0 .comparing) (fitting (not-false _ (c .before .if2 .left)) (c .before .before .part-fits .ensures)) (c .before .before .before .before .before .pre .1 .right-long)
+load-requires c κs = domain-loads (c .before .before .before .pre .0 .comparing) (c .before .before .before .pre .1 .right-long)
+
+returns-2 : tie.Need-returns-2
+returns-2 c = (typed-large-domain (c .before .before .before .before .before .pre .0 .comparing) (c .before .before .before .if1 .left) (answered (not-true _ (c .if2 .taken)) (c .before .load .ensures)), record { left-long = c .before .before .before .before .before .pre .1 .left-long; right-long = c .before .load .ensures .same-length ∙ c .before .before .before .before .before .pre .1 .right-long })
 
 group-at-requires : tie.Need-group-at-requires
-group-at-requires c κs = some-left (c .before .before .before .before .before .before .pre .0 .comparing .stand) (c .before .before .before .before .if1 .left)
+group-at-requires c κs = some-left (c .before .before .before .before .before .pre .0 .comparing .stand) (c .before .before .before .if1 .left)
+
+add-compare-sides : tie.Need-add-compare-sides
+add-compare-sides c = search needs
+
+sub-compare-sides : tie.Need-sub-compare-sides
+sub-compare-sides c = search needs
 
 compare-sides-requires : tie.Need-compare-sides-requires
-compare-sides-requires c κs = two-sides (c .before .before .before .before .before .before .before .before .before .pre .0 .comparing) (c .before .before .group-at .ensures) (c .before .before .before .before .before .before .before .before .before .pre .0 .typed) (fitting (not-false _ (c .before .before .before .before .before .if2 .left)) (c .before .before .before .before .before .before .part-fits .ensures)) (c .before .before .before .load .ensures)
+compare-sides-requires c κs = two-sides (c .before .before .before .before .before .before .before .before .pre .0 .comparing) (c .before .before .group-at .ensures) (c .before .before .before .before .before .before .before .before .pre .0 .typed) (c .before .before .before .before .before .before .before .before .pre .1 .right-long) (answered (not-false _ (c .before .before .before .if2 .left)) (c .before .before .before .before .load .ensures))
 
 returns-3 : tie.Need-returns-3
-returns-3 c = (typed-sides (c .before .before .before .before .before .before .before .before .before .before .pre .0 .comparing) (c .before .before .before .group-at .ensures) (fitting (not-false _ (c .before .before .before .before .before .before .if2 .left)) (c .before .before .before .before .before .before .before .part-fits .ensures)) (c .before .before .before .before .load .ensures) (c .compare-sides .ensures .0), c .compare-sides .ensures .1)
+returns-3 c = (typed-sides (c .before .before .before .before .before .before .before .before .before .pre .0 .comparing) (c .before .before .before .group-at .ensures) (c .before .before .before .before .before .before .before .before .before .pre .1 .right-long) (answered (not-false _ (c .before .before .before .before .if2 .left)) (c .before .before .before .before .before .load .ensures)) (c .compare-sides .ensures .0), c .compare-sides .ensures .1)
 
 pub compare-type-spec : {M : Type 1} → statement M
 compare-type-spec =
     tie.close
     (tie.spec
     returns
-    add-part-fits
-    part-fits-requires
-    returns-2
     add-load
     load-requires
+    returns-2
     group-at-requires
+    add-compare-sides
+    sub-compare-sides
     compare-sides-requires
     returns-3)

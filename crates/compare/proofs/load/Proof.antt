@@ -1,19 +1,26 @@
--- `compare::load` meets its contract.
+-- `compare::load` meets its contract, by the laws of Bodies.antt.
 -- Assumes nothing.
 use native.Mathlib.Omega.{arith}
-use Rattle.code.proofs.Parts.{stands-start, stands-end}
-use Rattle.compare.proofs.Bodies.{loaded}
+use Rattle.compare.proofs.Bodies.{load-ordered, load-long, load-readable, load-read}
+use borrow.Author.Needs.{needs}
 use Rattle.compare.proofs.load.Statement.{statement}
 use Rattle.compare.proofs.load.Tie as tie
+use Rattle.letters.proofs.read.Reads as read-reads
 
-copy-part-requires : tie.Need-copy-part-requires
-copy-part-requires c κs = let x = c .before .before .pre in (omega (arith, stands-start (x .part .stands)), (stands-end (x .part .stands), omega (arith, x .buffer, x .short)))
-
-sub-result : tie.Need-sub-result
-sub-result c = let x = c .before .before .before .pre in omega (arith, stands-start (x .part .stands))
+sub-if1 : tie.Need-sub-if1
+sub-if1 c = search needs
 
 returns : tie.Need-returns
-returns c = loaded (c .before .before .before .pre) (c .copy-part .ensures)
+returns c = load-long (c .before .pre) (c .if1 .taken)
+
+sub-read : tie.Need-sub-read
+sub-read c = search needs
+
+read-requires : tie.Need-read-requires
+read-requires c κs = load-readable (c .before .before .before .pre) (c .before .before .if1 .left)
+
+returns-2 : tie.Need-returns-2
+returns-2 c = load-read (c .before .before .before .before .pre) (c .before .before .before .if1 .left) (c .read .ensures)
 
 pub load-spec : {M : Type 1} → statement M
-load-spec = tie.close (tie.spec copy-part-requires sub-result returns)
+load-spec = tie.close (tie.spec sub-if1 returns sub-read read-requires returns-2)

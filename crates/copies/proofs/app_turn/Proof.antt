@@ -8,7 +8,7 @@ use Rattle.copies.proofs.app_turn.Statement.{statement}
 use Rattle.copies.proofs.app_turn.Tie as tie
 use Rattle.copies.proofs.app_turn.Reads as reads
 use Rattle.copies.proofs.app_turn.Lts as lts
-use Rattle.indices.proofs.measure.Reads as measure-reads
+use Rattle.indices.proofs.scope_in.Reads as scope-in-reads
 use Rattle.frames.proofs.end_of.Reads as end-of-reads
 use Rattle.waiting.proofs.waiting_extent.Reads as waiting-extent-reads
 use Rattle.copies.proofs.go_on.Reads as go-on-reads
@@ -21,11 +21,11 @@ add-end-of c = search needs
 end-of-requires : tie.Need-end-of-requires
 end-of-requires c κs = (c .before .before .pre .0, app-standing (c .before .before .pre .1 .at) (c .before .before .pre .1 .room) (c .before .before .pre .2))
 
-add-measure : tie.Need-add-measure
-add-measure c = search needs
+add-scope-in : tie.Need-add-scope-in
+add-scope-in c = search needs
 
-measure-requires : tie.Need-measure-requires
-measure-requires c κs = app-measurable (c .before .before .before .before .pre .1 .at) (c .before .before .before .before .pre .1 .room) (c .before .before .before .before .pre .2) (c .before .end-of .ensures)
+scope-in-requires : tie.Need-scope-in-requires
+scope-in-requires c κs = app-measurable (c .before .before .before .before .pre .1 .at) (c .before .before .before .before .pre .1 .room) (c .before .before .before .before .pre .2) (c .before .end-of .ensures)
 
 waiting-extent-requires : tie.Need-waiting-extent-requires
 waiting-extent-requires c κs = search needs
@@ -40,7 +40,7 @@ larger-requires : tie.Need-larger-requires
 larger-requires c κs = search needs
 
 store-slot-requires : tie.Need-store-slot-requires
-store-slot-requires c κs = let g = c .before .before .before .before .before .before .before .before .before .before .pre .1 in let x = c .before .before .before .before .before .before .before .end-of .ensures in (app-ytop (g .at) (g .room) (c .before .before .before .before .before .before .before .before .before .before .pre .2) x, g .at .ylong, app-small (g .at) (g .room) (c .before .before .before .before .before .before .before .before .before .before .pre .2) x (c .before .before .before .waiting-extent .ensures) (c .before .before .before .before .before .measure .ensures) (c .before .larger .ensures))
+store-slot-requires c κs = let g = c .before .before .before .before .before .before .before .before .before .before .pre .1 in let x = c .before .before .before .before .before .before .before .end-of .ensures in (app-ytop (g .at) (g .room) (c .before .before .before .before .before .before .before .before .before .before .pre .2) x, g .at .ylong, app-small (g .at) (g .room) (c .before .before .before .before .before .before .before .before .before .before .pre .2) x (c .before .before .before .waiting-extent .ensures) (c .before .before .before .before .before .scope-in .ensures) (c .before .larger .ensures))
 
 add-t20 : tie.Need-add-t20
 add-t20 c = omega (arith, app-ytop (c .before .before .before .before .before .before .before .before .before .before .before .before .pre .1 .at) (c .before .before .before .before .before .before .before .before .before .before .before .before .pre .1 .room) (c .before .before .before .before .before .before .before .before .before .before .before .before .pre .2) (c .before .before .before .before .before .before .before .before .before .end-of .ensures))
@@ -49,7 +49,7 @@ go-on-requires : tie.Need-go-on-requires
 go-on-requires c κs = search needs
 
 returns : tie.Need-returns
-returns c = rw (c .go-on .ensures) (noted-ruled (c .before .before .before .before .before .before .before .before .before .before .before .before .before .pre .1) (c .before .before .store-slot .ensures) (λ R W Q B p z o. app-goes z o (c .before .before .before .before .before .before .before .before .before .before .before .before .before .pre .2) (c .before .before .before .before .before .before .before .before .before .before .end-of .ensures) (c .before .before .before .before .before .before .waiting-extent .ensures) (c .before .before .before .before .before .before .before .before .measure .ensures) _ (c .before .before .before .before .larger .ensures) (c .before .before .store-slot .ensures)))
+returns c = rw (c .go-on .ensures) (noted-ruled (c .before .before .before .before .before .before .before .before .before .before .before .before .before .pre .1) (c .before .before .store-slot .ensures) (λ R W Q B p z o. app-goes z o (c .before .before .before .before .before .before .before .before .before .before .before .before .before .pre .2) (c .before .before .before .before .before .before .before .before .before .before .end-of .ensures) (c .before .before .before .before .before .before .waiting-extent .ensures) (c .before .before .before .before .before .before .before .before .scope-in .ensures) _ (c .before .before .before .before .larger .ensures) (c .before .before .store-slot .ensures)))
 
 pub app-turn-spec : {M : Type 1} → statement M
 app-turn-spec =
@@ -57,8 +57,8 @@ app-turn-spec =
     (tie.spec
     add-end-of
     end-of-requires
-    add-measure
-    measure-requires
+    add-scope-in
+    scope-in-requires
     waiting-extent-requires
     sub-t20
     add-t23

@@ -14,11 +14,11 @@ add-if1 c = search needs
 returns : tie.Need-returns
 returns c = size-fits (c .before .pre .0) (c .if1 .taken)
 
-measure-requires : tie.Need-measure-requires
-measure-requires c κs = search needs
+scope-in-requires : tie.Need-scope-in-requires
+scope-in-requires c κs = search needs
 
 returns-2 : tie.Need-returns-2
-returns-2 c = scope-exact (c .before .before .before .pre .0) (c .measure .ensures)
+returns-2 c = scope-exact (c .before .before .before .pre .0) (c .scope-in .ensures)
 
 pub scope-or-fit-spec : {M : Type 1} → statement M
-scope-or-fit-spec = tie.close (tie.spec sub-if1 add-if1 returns measure-requires returns-2)
+scope-or-fit-spec = tie.close (tie.spec sub-if1 add-if1 returns scope-in-requires returns-2)

@@ -5,12 +5,6 @@ use borrow.Author.Needs.{needs}
 use Rattle.indices.proofs.advance.Statement.{statement}
 use Rattle.indices.proofs.advance.Tie as tie
 
-sub-result : tie.Need-sub-result
-sub-result c = search needs
-
-returns : tie.Need-returns
-returns c = advanced-terminal _ (c .before .before .pre) (c .if1 .taken)
-
 sub-d : tie.Need-sub-d
 sub-d c = search needs
 
@@ -20,11 +14,17 @@ mul-d c = search needs
 slice-read-d : tie.Need-slice-read-d
 slice-read-d c = search needs
 
+scope-of-requires : tie.Need-scope-of-requires
+scope-of-requires c κs = search needs
+
+sub-t8 : tie.Need-sub-t8
+sub-t8 c = search needs
+
+returns : tie.Need-returns
+returns c = rw (c .scope-of .ensures) (advanced-terminal _ (c .before .before .before .before .pre) (c .before .before .if1 .taken))
+
 body-scope-requires : tie.Need-body-scope-requires
 body-scope-requires c κs = search needs
-
-sub-stack : tie.Need-sub-stack
-sub-stack c = search needs
 
 mul-stack : tie.Need-mul-stack
 mul-stack c = search needs
@@ -32,36 +32,28 @@ mul-stack c = search needs
 slice-write-stack : tie.Need-slice-write-stack
 slice-write-stack c = search needs
 
-mul-stack-2 : tie.Need-mul-stack-2
-mul-stack-2 c = search needs
-
-slice-write-stack-2 : tie.Need-slice-write-stack-2
-slice-write-stack-2 c = search needs
-
-add-result : tie.Need-add-result
-add-result c = search needs
+add-t12 : tie.Need-add-t12
+add-t12 c = search needs
 
 same-length : tie.Need-same-length
 same-length c = search needs
 
 returns-2 : tie.Need-returns-2
-returns-2 c = advanced-operator _ _ (c .before .before .before .before .pre) (c .before .before .if1 .left) (c .body-scope .ensures)
+returns-2 c = advanced-operator _ _ (c .before .before .before .pre) (c .before .if1 .left) (c .body-scope .ensures)
 
 pub advance-spec : {M : Type 1} → statement M
 advance-spec =
     tie.close
     (tie.spec
-    sub-result
-    returns
     sub-d
     mul-d
     slice-read-d
+    scope-of-requires
+    sub-t8
+    returns
     body-scope-requires
-    sub-stack
     mul-stack
     slice-write-stack
-    mul-stack-2
-    slice-write-stack-2
-    add-result
+    add-t12
     same-length
     returns-2)

@@ -34,9 +34,6 @@ copy-from-requires c κs = let x = c .before .before .pre .1 in (omega (arith, s
 add-lift-above : tie.Need-add-lift-above
 add-lift-above c = search needs
 
-cast-lift-above : tie.Need-cast-lift-above
-cast-lift-above c = search needs
-
 lift-above-requires : tie.Need-lift-above-requires
 lift-above-requires c κs = above-asked _ (c .before .before .before .before .pre .1) (c .before .copy-from .ensures)
 
@@ -60,7 +57,6 @@ write-from-text-spec =
     add-copy-from
     copy-from-requires
     add-lift-above
-    cast-lift-above
     lift-above-requires
     add-lift-in-place
     lift-in-place-requires

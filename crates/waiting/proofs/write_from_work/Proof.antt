@@ -33,9 +33,6 @@ copy-in-requires c κs = search needs
 add-lift-above : tie.Need-add-lift-above
 add-lift-above c = search needs
 
-cast-lift-above : tie.Need-cast-lift-above
-cast-lift-above c = search needs
-
 lift-above-requires : tie.Need-lift-above-requires
 lift-above-requires c κs = let x = c .before .before .before .pre .2 in above-asked _ x (moved-mark (c .before .before .before .args .work .now) (c .before .before .before .args .to) (c .before .before .before .args .mark) (omega (arith, stands-start (x .stands), c .before .before .before .pre .0)) (c .before .copy-in .ensures))
 
@@ -59,7 +56,6 @@ write-from-work-spec =
     add-copy-in
     copy-in-requires
     add-lift-above
-    cast-lift-above
     lift-above-requires
     add-lift-in-place
     lift-in-place-requires

@@ -1,0 +1,15 @@
+-- The laws of this crate.
+-- Assumes nothing.
+pub mod Ways
+pub mod Extents
+pub mod Mapping
+pub mod Lifting
+pub mod Lowering
+pub mod Finding
+pub mod Splitting
+pub mod Binding
+pub mod Places
+pub mod Putting
+pub mod Meaning
+pub mod Removals
+pub mod Using

@@ -1,0 +1,448 @@
+// A body held as letters, after a frame: its type, and one step on it (document 01, 'Terms' and 'Steps').
+ghost use mathlib.Core.Path.{_≡_};
+ghost use mathlib.Core.List.{List};
+ghost use Prim.Native.Nat.{ℕ, _+_, _-_, _≤_, _<_, max};
+ghost use lib.ListN.{length};
+ghost use Rattle.code.specs.Limits.{longestTerm};
+ghost use Rattle.frames.specs.declared.FrameRecord.{FrameRecord as Record};
+ghost use Rattle.letters.specs.Letters.{depthOf};
+ghost use Rattle.parts.specs.Parts.{part, Copied};
+ghost use Rattle.bodies.specs.Held.{SomeHeld, InBody, InSomeBody, Steps, Types};
+ghost use Rattle.bodies.specs.Finding.{Findable, Found, Matable, Mated, SomeBound, Finds};
+ghost use Rattle.bodies.specs.Moving.{Mapped, Ending, LiftableLetter, liftedLetter, Liftable, Lifts, SomeLies, DeepestIs, loweredLetter, useOf, usesOf, InScope};
+ghost use Rattle.bodies.specs.Putting.{Sourced, SourceWritten, Puttable, Puts};
+use code::numbers::LONGEST_TERM;
+use code::numbers::MOST_ABSTRACTORS;
+use frames::FrameRecord;
+use frames::Work;
+use frames::entry_at;
+use letters::ABSTRACTOR;
+use letters::APPLICATOR;
+use letters::Letters;
+use letters::depth_of;
+use letters::height_of;
+use letters::letter_of;
+use letters::read;
+use letters::symbol_of;
+
+// Why a step is refused, in the order in which it is tried.
+pub const UNKNOWN_KIND: u32 = 1;
+
+pub const PAST_END: u32 = 2;
+
+pub const WRONG_SYMBOL: u32 = 3;
+
+pub const NO_PARTNER: u32 = 4;
+
+pub const STILL_USED: u32 = 5;
+
+// The step is refused, for this reason; the form that it reaches is over the limits; or the form's length.
+pub enum Form {
+    Refused(u32),
+    Outgrown,
+    Length(usize),
+}
+
+// A variable's abstractor in the body, and where the K directly before it starts: 0 if there is none.
+struct Binder {
+    applied: usize,
+    abstractor: usize,
+}
+
+// A term that is to take a variable's place: in the frame's bytes, or among the body's letters.
+struct Source {
+    framed: bool,
+    start: usize,
+    end: usize,
+}
+
+// ---- Parts of the array.
+// The part moves up, last letter first: old and new place may overlap.
+fn move_right(s: &mut Letters, from: usize, to: usize, by: usize)
+    requires { ⌜ (from ≤ to) × (to + by ≤ length (now s)) × (length (now s) ≡ longestTerm) ⌝ }
+    ensures { λ r. ⌜ Copied (now (s .entry)) from to (now (s .entry)) (now (s .exit)) (from + by) ⌝ }
+{
+    let mut i = to;
+    while from < i {
+        i -= 1;
+        s[i + by] = s[i];
+    }
+}
+
+// The part moves down, first letter first: old and new place may overlap.
+fn move_left(s: &mut Letters, from: usize, to: usize, by: usize)
+    requires { ⌜ (by ≤ from) × ((from ≤ to) × (to ≤ length (now s))) × (length (now s) ≡ longestTerm) ⌝ }
+    ensures { λ r. ⌜ Copied (now (s .entry)) from to (now (s .entry)) (now (s .exit)) (from - by) ⌝ }
+{
+    let mut place = from;
+    while place < to {
+        s[place - by] = s[place];
+        place += 1;
+    }
+}
+
+// The first place from i on, of n, whose letter is less high than h.
+fn end_of(s: &Letters, n: usize, i: usize, h: usize) -> usize
+    requires { ⌜ (length (now s) ≡ longestTerm) × (n ≤ longestTerm) × (i ≤ n) ⌝ }
+    ensures { λ r. ⌜ Ending (now (s .entry)) n i h r ⌝ }
+{
+    if h == 0 {
+        return n;
+    }
+    let mut j = i;
+    while j < n {
+        if height_of(s[j]) < h {
+            return j;
+        }
+        j += 1;
+    }
+    n
+}
+
+// ---- Binders.
+// The abstractor of depth d that has place p in its scope.
+fn abstractor_of(s: &Letters, p: usize, d: usize) -> usize
+    requires { ⌜ Findable (now s) p d ⌝ }
+    ensures { λ r. ⌜ Found (now (s .entry)) p d r ⌝ }
+{
+    let mut m = height_of(s[p]);
+    let mut sought = letter_of(ABSTRACTOR, d, m);
+    let mut q = p;
+    while q > 0 {
+        q -= 1;
+        let x = s[q];
+        if x == sought {
+            return q;
+        }
+        let h = height_of(x);
+        if h < m {
+            m = h;
+            sought = letter_of(ABSTRACTOR, d, h);
+        }
+    }
+    p
+}
+
+// One more than the place of the applicator directly before the abstractor at q in its train, 0 if there is none.
+fn partner_of(s: &Letters, q: usize) -> usize
+    requires { ⌜ Matable (now s) q ⌝ }
+    ensures { λ r. ⌜ Mated (now (s .entry)) q r ⌝ }
+{
+    let y = s[q];
+    let h = height_of(y);
+    let mut i = q;
+    while i > 0 {
+        i -= 1;
+        let x = s[i];
+        if height_of(x) <= h {
+            if x == y - 1 {
+                return i + 1;
+            }
+            return 0;
+        }
+    }
+    0
+}
+
+// The binder of the variable at place p, an abstractor of depth d, and its partner. Couples will change this function alone.
+fn find(s: &Letters, p: usize, d: usize) -> Binder
+    requires { ⌜ SomeBound (now s) p d ⌝ }
+    ensures { λ r. ⌜ Finds (now (s .entry)) p d r ⌝ }
+{
+    let q = abstractor_of(s, p, d);
+    let a = partner_of(s, q);
+    Binder {
+        applied: a,
+        abstractor: q,
+    }
+}
+
+// ---- Lifting.
+fn narrow(x: usize) -> u32
+    requires { ⌜ x < 4294967296 ⌝ }
+    ensures { λ r. ⌜ r ≡ x ⌝ }
+{
+    x as u32
+}
+
+// A letter of a term that is lifted by k, in 32 bits as the letters are, so that the loop is vectorised. The first letter of the term has
+// depth c and height low, and is to have depth c + k and height h.
+fn lifted_letter(x: u32, c: u32, k: u32, h: u32, low: u32) -> u32
+    requires { ⌜ LiftableLetter c k h low x ⌝ }
+    ensures { λ r. ⌜ r ≡ liftedLetter c k h low x ⌝ }
+{
+    let y = x - low * 1048576 + (k * 1024 + h * 1048576);
+    let symbol = x % 1024;
+    if symbol >= 1022 {
+        return y;
+    }
+    if symbol > x / 1024 % 1024 - c {
+        return y + k;
+    }
+    y
+}
+
+// The term that lies in s from `from` up to `to`, where its first letter has depth c, goes lifted by k to `at`, past it, where its first
+// letter has height h.
+fn lift_part(s: &mut Letters, from: usize, to: usize, c: u32, k: u32, h: u32, at: usize)
+    requires { ⌜ Liftable (now s) from to c k h at ⌝ }
+    ensures { λ r. ⌜ Lifts (now (s .entry)) (now (s .exit)) from to c k h at ⌝ }
+{
+    let low = narrow(height_of(s[from]));
+    let mut i = from;
+    let mut j = at;
+    while i < to {
+        s[j] = lifted_letter(s[i], c, k, h, low);
+        i += 1;
+        j += 1;
+    }
+}
+
+// The larger of x and the depth of a letter.
+fn deeper(x: u32, letter: u32) -> u32
+    ensures { λ r. ⌜ r ≡ max x (depthOf letter) ⌝ }
+{
+    let d = letter / 1024 % 1024;
+    if x < d { d } else { x }
+}
+
+// The most abstractors of the body that any letter of the term from `from` up to `to` has in scope.
+fn deepest(s: &Letters, from: usize, to: usize) -> u32
+    requires { ⌜ SomeLies (now s) from to ⌝ }
+    ensures { λ r. ⌜ DeepestIs (now (s .entry)) from to r ⌝ }
+{
+    let mut most: u32 = 0;
+    let mut i = from;
+    while i < to {
+        most = deeper(most, s[i]);
+        i += 1;
+    }
+    most
+}
+
+// ---- Lowering.
+// A letter in the scope of a dropped abstractor of depth c.
+fn lowered_letter(x: u32, c: u32) -> u32
+    requires { ⌜ c < depthOf x ⌝ }
+    ensures { λ r. ⌜ r ≡ loweredLetter c x ⌝ }
+{
+    let symbol = x % 1024;
+    if symbol >= 1022 {
+        return x - 1024;
+    }
+    if symbol < x / 1024 % 1024 - c {
+        return x - 1024;
+    }
+    x - 1025
+}
+
+// The letters from `from` up to `to` are lowered.
+fn lower_part(s: &mut Letters, from: usize, to: usize, c: u32)
+    requires { ⌜ InScope (now s) from to c ⌝ }
+    ensures { λ r. ⌜ Mapped (loweredLetter c) (now (s .entry)) (now (s .exit)) from to from ⌝ }
+{
+    let mut i = from;
+    while i < to {
+        s[i] = lowered_letter(s[i], c);
+        i += 1;
+    }
+}
+
+// 1 if the letter x is a use of the variable of an abstractor of depth c, else 0.
+fn use_of(x: u32, c: u32) -> u32
+    requires { ⌜ c < depthOf x ⌝ }
+    ensures { λ r. ⌜ (r ≡ useOf c x) × (r ≤ 1) ⌝ }
+{
+    if x % 1024 == x / 1024 % 1024 - c {
+        1
+    } else {
+        0
+    }
+}
+
+// How often the variable of an abstractor of depth c is used from `from` up to `to`.
+fn uses(s: &Letters, from: usize, to: usize, c: u32) -> u32
+    requires { ⌜ InScope (now s) from to c ⌝ }
+    ensures { λ r. ⌜ r ≡ usesOf c (part (now (s .entry)) from to) ⌝ }
+{
+    let mut count: u32 = 0;
+    let mut i = from;
+    while i < to {
+        count += use_of(s[i], c);
+        i += 1;
+    }
+    count
+}
+
+// ---- A term in a variable's place.
+// The term for variable k, lifted, goes to p, its first letter at depth d and height h. Not, if more than `room` of its abstractors are
+// in scope anywhere.
+fn write_source(
+    s: &mut Letters,
+    work: &Work,
+    x: Source,
+    k: usize,
+    d: usize,
+    h: usize,
+    room: usize,
+    p: usize,
+) -> bool
+    requires { ⌜ Sourced (now work) (now s) p k d h room x ⌝ }
+    ensures { λ r. ⌜ SourceWritten (now (work .entry)) (now (s .entry)) (now (s .exit)) p k d h room x r ⌝ }
+{
+    if x.framed {
+        return read(work, x.start, x.end, k, d, h, room, s, p);
+    }
+    let c = narrow(d - k);
+    if deepest(s, x.start, x.end) > c + narrow(room) {
+        return false;
+    }
+    lift_part(s, x.start, x.end, c, narrow(k), narrow(h), p);
+    true
+}
+
+// The term that x says, lifted, takes the place of the variable at p of the body in the first n letters.
+fn put(s: &mut Letters, n: usize, work: &Work, f: FrameRecord, p: usize, x: Source) -> Form
+    requires { ⌜ Puttable (now work) f (now s) n p x ⌝ }
+    ensures { λ r. ⌜ Puts (now (work .entry)) f (now (s .entry)) (now (s .exit)) n p x r ⌝ }
+{
+    let size = x.end - x.start;
+    let m = n - 1 + size;
+    if m > LONGEST_TERM {
+        return Form::Outgrown;
+    }
+    let v = s[p];
+    let d = depth_of(v);
+    let room = MOST_ABSTRACTORS - f.len - d;
+    move_right(s, p + 1, n, size - 1);
+    if !write_source(s, work, x, symbol_of(v), d, height_of(v), room, p) {
+        return Form::Outgrown;
+    }
+    Form::Length(m)
+}
+
+// ---- Steps.
+// Kind 1 at place p.
+fn local(s: &mut Letters, n: usize, work: &Work, f: FrameRecord, p: usize) -> Form
+    requires { ⌜ InBody (now work) f (now s) n p ⌝ }
+    ensures { λ r. ⌜ Steps (now (work .entry)) f (now (s .entry)) (now (s .exit)) n (record { kind = 1; place = p }) r ⌝ }
+{
+    let v = s[p];
+    let k = symbol_of(v);
+    if k == 0 {
+        return Form::Refused(WRONG_SYMBOL);
+    }
+    if k >= APPLICATOR {
+        return Form::Refused(WRONG_SYMBOL);
+    }
+    let d = depth_of(v);
+    if k <= d {
+        let b = find(s, p, d - k);
+        let applied = b.applied;
+        if applied == 0 {
+            return Form::Refused(NO_PARTNER);
+        }
+        let x = Source {
+            framed: false,
+            start: applied,
+            end: b.abstractor,
+        };
+        return put(s, n, work, f, p, x);
+    }
+    let e = entry_at(work, f, k - d);
+    let start = e.applied;
+    if start == 0 {
+        return Form::Refused(NO_PARTNER);
+    }
+    let x = Source {
+        framed: true,
+        start: start,
+        end: e.domain - 1,
+    };
+    put(s, n, work, f, p, x)
+}
+
+// Kind 2 at place p.
+fn removal(s: &mut Letters, n: usize, p: usize) -> Form
+    requires { ⌜ InSomeBody (now s) n p ⌝ }
+    ensures { λ r. ⌜ ((w : List ℕ) (f : Record) → Steps w f (now (s .entry)) (now (s .exit)) n (record { kind = 2; place = p }) r) ⌝ }
+{
+    let v = s[p];
+    if symbol_of(v) != APPLICATOR {
+        return Form::Refused(WRONG_SYMBOL);
+    }
+    let h = height_of(v);
+    let m = end_of(s, n, p + 1, h + 1);
+    if symbol_of(s[m]) != ABSTRACTOR {
+        return Form::Refused(NO_PARTNER);
+    }
+    let q = end_of(s, n, m + 1, h + 1);
+    let e = end_of(s, n, q, h);
+    let c = narrow(depth_of(v));
+    if uses(s, q, e, c) > 0 {
+        return Form::Refused(STILL_USED);
+    }
+    lower_part(s, q, e, c);
+    move_left(s, q, n, q - p);
+    Form::Length(n - (q - p))
+}
+
+// One step on the body in the first n letters, after the frame that f holds in work: the form that it reaches takes the body's place.
+pub fn step_in_place(
+    s: &mut Letters,
+    n: usize,
+    work: &Work,
+    f: FrameRecord,
+    kind: u8,
+    place: usize,
+) -> Form
+    requires { ⌜ SomeHeld (now work) f (now s) n ⌝ }
+    ensures { λ r. ⌜ Steps (now (work .entry)) f (now (s .entry)) (now (s .exit)) n (record { kind = kind; place = place }) r ⌝ }
+{
+    if kind == 1 {
+        if place >= n {
+            return Form::Refused(PAST_END);
+        }
+        return local(s, n, work, f, place);
+    }
+    if kind == 2 {
+        if place >= n {
+            return Form::Refused(PAST_END);
+        }
+        return removal(s, n, place);
+    }
+    Form::Refused(UNKNOWN_KIND)
+}
+
+// ---- The type of the body in the first n letters takes its place: U for its last variable.
+pub fn type_in_place(s: &mut Letters, n: usize, work: &Work, f: FrameRecord) -> Form
+    requires { ⌜ SomeHeld (now work) f (now s) n ⌝ }
+    ensures { λ r. ⌜ Types (now (work .entry)) f (now (s .entry)) (now (s .exit)) n r ⌝ }
+{
+    let p = n - 1;
+    let v = s[p];
+    let k = symbol_of(v);
+    if k == 0 {
+        return Form::Refused(WRONG_SYMBOL);
+    }
+    let d = depth_of(v);
+    if k <= d {
+        let b = find(s, p, d - k);
+        let q = b.abstractor;
+        let h = height_of(s[q]);
+        let end = end_of(s, n, q + 1, h + 1);
+        let x = Source {
+            framed: false,
+            start: q + 1,
+            end: end,
+        };
+        return put(s, n, work, f, p, x);
+    }
+    let e = entry_at(work, f, k - d);
+    let x = Source {
+        framed: true,
+        start: e.domain,
+        end: e.end,
+    };
+    put(s, n, work, f, p, x)
+}

@@ -1,0 +1,4 @@
+-- The definitions of this crate.
+-- Assumes nothing.
+pub mod Letters
+pub mod Contracts

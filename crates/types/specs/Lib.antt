@@ -1,4 +1,0 @@
--- The definitions and contracts of this crate.
--- Assumes nothing.
-pub mod Domains
-pub mod Typed
