@@ -4,10 +4,10 @@ use Prim.Native.Nat.{ℕ, zero, suc}
 use mathlib.Core.Path.{_≡_, refl}
 use mathlib.Core.List.{List, [], _∷_, _++_}
 use Rattle.calculus.specs.Terms.{Term, tau, var, lift, liftIndex}
-use Rattle.calculus.specs.Frames.{domain, ε, entryAt}
+use Rattle.calculus.specs.Frames.{domain, pair, ε, _▹_, entryAt}
 use Rattle.calculus.specs.Rules.{liftAll, State, own, Comparison, compare, Question, holds, same, Next, asks, stops, typed, plainNext, onePassNext}
 use Rattle.calculus.specs.Walks.{End, finished, stopped, Walk, walk-end, walk-same, walk-asks, walk-stops, WalkFrom}
-use Rattle.calculus.specs.Examples.{e3, e5, body, two, defined, undefined, two-wait, unused-pair, three, first, second}
+use Rattle.calculus.specs.Examples.{e3, e5, body, two, defined, undefined, two-wait, unused-pair, k-inside, u-inside, in-order, both-taken, three, taking, first, second}
 
 -- where the questions lead, if that is known after so many of them
 data Result : Type 0 where
@@ -60,7 +60,7 @@ is-walk next n qs h = rw h at (right next n qs)
 
 -- more questions than any of the examples has
 abbrev many : ℕ
-many = 40
+many = 60
 
 pub e3-demands : WalkFrom onePassNext (own ε [] e3) (compare two (var 2) tau ∷ compare defined (var 2) (var 1) ∷ []) finished
 unfolding walked after-same replaced onePassNext typed entryAt lift liftIndex domain liftAll
@@ -85,3 +85,12 @@ body-demands = is-walk plainNext many (holds (own two [] body) ∷ []) refl
 pub body-demands-one-pass : WalkFrom onePassNext (own two [] body) (compare undefined (var 2) (var 1) ∷ []) finished
 unfolding walked after-same replaced onePassNext typed entryAt lift liftIndex domain liftAll
 body-demands-one-pass = is-walk onePassNext many (holds (own two [] body) ∷ []) refl
+
+pub in-order-demands : WalkFrom onePassNext (own ε [] in-order)
+    (compare two (var 1) (var 2) ∷ compare two (var 2) tau ∷ compare two k-inside u-inside ∷ compare (two ▹ pair k-inside u-inside) (var 2) (var 3) ∷ []) finished
+unfolding walked after-same replaced onePassNext typed entryAt lift liftIndex domain liftAll
+in-order-demands = is-walk onePassNext many (holds (own ε [] in-order) ∷ []) refl
+
+pub both-taken-demands : WalkFrom onePassNext (own ε [] both-taken) (compare taking (var 1) (var 3) ∷ compare (taking ▹ pair (var 1) (var 3)) (var 2) (var 4) ∷ []) finished
+unfolding walked after-same replaced onePassNext typed entryAt lift liftIndex domain liftAll
+both-taken-demands = is-walk onePassNext many (holds (own ε [] both-taken) ∷ []) refl
