@@ -72,7 +72,7 @@ unfolding onePassNext follow placed
 at-app i ws R W K B p l h =
     by-its-rule i ws (own R W (app K B)) p h
     ∙ two-parts _ _ (turned 1 p)
-    ∙ rw (last-none (i ∷ ws), last-all (length (K ∷ W)) (i ∷ ws) (ap suc (sym l)))
+    ∙ rw (last-none (_ ∷ ws), last-all (length (K ∷ W)) (_ ∷ ws) (ap suc (sym l)))
 
 at-abs : (i : ℕ) (R : Frame) (U B : Term) (p : Progress) → StateFits (own R [] (abs U B))
     → finish (state-at i [] (own R [] (abs U B)) ∷ []) p
@@ -81,7 +81,7 @@ unfolding onePassNext follow placed
 at-abs i R U B p h =
     by-its-rule i [] (own R [] (abs U B)) p h
     ∙ two-parts _ _ (turned 1 p)
-    ∙ rw (last-none (i ∷ []))
+    ∙ rw (last-none (_ ∷ []))
 
 at-pair : (i j : ℕ) (ws : List ℕ) (R : Frame) (W : List Term) (K U B : Term) (p : Progress) → length ws ≡ length W → StateFits (own R (K ∷ W) (abs U B))
     → finish (state-at i (j ∷ ws) (own R (K ∷ W) (abs U B)) ∷ []) p
@@ -90,7 +90,7 @@ at-pair : (i j : ℕ) (ws : List ℕ) (R : Frame) (W : List Term) (K U B : Term)
 unfolding onePassNext follow placed
 at-pair i j ws R W K U B p l h =
     by-its-rule i (j ∷ ws) (own R (K ∷ W) (abs U B)) p h
-    ∙ rw (last-none (i ∷ j ∷ ws), last-two (length (liftAll W)) i j ws (length-liftAll W ∙ sym l)) (
+    ∙ rw (last-none (_ ∷ j ∷ ws), last-two (length (liftAll W)) _ j ws (length-liftAll W ∙ sym l)) (
     in-parts (state-at (suc i) [] (own R [] U) ∷ []) (same-at j R K U ∷ state-at (suc i + size U) ws (own (R ▹ pair K U) (liftAll W) B) ∷ []) (turned 1 p)
     ∙ ap (andThen _) (fun-ext (λ q. two-parts (same-at j R K U) _ q)))
 
