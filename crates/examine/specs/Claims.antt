@@ -8,6 +8,7 @@ use mathlib.Core.List.{List, [], _∷_}
 use lib.ListN.{length}
 use Rattle.calculus.specs.Terms.{Term, size, Closed}
 use Rattle.code.specs.Limits.{longestTerm, mostAbstractors}
+use Rattle.code.specs.Refusals.{notOneTerm, tooLong, tooManyInScope}
 use Rattle.code.specs.Code.{Bytes, Coded, decode}
 use Rattle.code.specs.Scope.{scope}
 use Rattle.examine.specs.Inspect.{no-fault, inspect, refused, accepted, examined, termAnswer}
@@ -25,10 +26,10 @@ pub record Examining : Type 0 where
   pub faultless : (d i : ℕ) (t : Term) → d ≤ mostAbstractors → (inspect d i t ≡ no-fault) ↔ (Closed d t × (d + scope t ≤ mostAbstractors))
   pub coded : (s : List ℕ) (t : Term) → Bytes s → examined s ≡ accepted t → Coded t
   -- a refusal has one of the numbers 3 to 6
-  pub numbers : (s : List ℕ) {n p : ℕ} → examined s ≡ refused n p → (3 ≤ n) × (n ≤ 6)
+  pub numbers : (s : List ℕ) {n p : ℕ} → examined s ≡ refused n p → (notOneTerm ≤ n) × (n ≤ tooManyInScope)
   -- 4,097 bytes give 4, and 4,096 give 3
-  pub too-long : (s : List ℕ) → longestTerm < length s → examined s ≡ refused 4 0
-  pub even : (s : List ℕ) → Bytes s → length s ≡ longestTerm → (p : ℕ) × (examined s ≡ refused 3 p)
+  pub too-long : (s : List ℕ) → longestTerm < length s → examined s ≡ refused tooLong 0
+  pub even : (s : List ℕ) → Bytes s → length s ≡ longestTerm → (p : ℕ) × (examined s ≡ refused notOneTerm p)
 
 -- n times two bytes, and then 00.
 unfoldable pub repeated : ℕ → ℕ → ℕ → List ℕ

@@ -11,6 +11,7 @@ use Rattle.calculus.specs.Frames.{ε}
 use Rattle.calculus.specs.Types.{nth, degreeIn, degrees, degree}
 use Rattle.code.specs.Limits.{longestTerm, mostAbstractors}
 use Rattle.code.specs.Refusals.{notOneTerm, tooLong, beyondScope, tooManyInScope}
+use Rattle.code.specs.Refusals as refusals
 use Rattle.code.specs.Code.{decode, termEnd}
 use Rattle.examine.specs.declared.TermAnswer.{TermAnswer}
 
@@ -75,7 +76,7 @@ examined s = cond (leb (length s) longestTerm) (ended s (termEnd s 0)) (refused 
 unfoldable pub termAnswerOf : Examined → TermAnswer
 unfolding nth degreeIn degrees degree
 termAnswerOf (refused n p) = record { number = n; place = p; degree = 0 }
-termAnswerOf (accepted t) = record { number = 0; place = 0; degree = degree ε t }
+termAnswerOf (accepted t) = record { number = refusals.accepted; place = 0; degree = degree ε t }
 
 -- The answer of the call `examine_term`.
 unfoldable pub termAnswer : List ℕ → TermAnswer

@@ -9,6 +9,8 @@ use Rattle.calculus.specs.Rules.{Group}
 use Rattle.fields.specs.declared.Layout.{Layout}
 use Rattle.fields.specs.Fields.{bodyEnd, readStep, readSteps, GroupAt, refused, accepted}
 use Rattle.code.specs.Limits.{longestFile}
+use Rattle.code.specs.Refusals.{cutShort, tooLong}
+use Rattle.code.specs.Refusals as refusals
 use Rattle.fields.specs.Fields.{readFile, layoutOf, termBytes, Whole, GroupHere, Groups, StepRange}
 use Rattle.fields.specs.Files.{writeFile, groupsPlaced, InBytes, GroupsFit}
 
@@ -29,11 +31,11 @@ pub record AcceptedLayout (s : List ℕ) (r : Layout) : Type 0 where
 -- 1. Which files are accepted, and how their groups and steps follow one another.
 pub record Reading : Type 0 where
   pub exactly : (s : List ℕ) (e : ℕ) (gs : List GroupAt) → (readFile s ≡ accepted e gs) ↔ HasFields s e gs
-  pub if-accepted : (s : List ℕ) {r : Layout} → r ≡ layoutOf (readFile s) → r .number ≡ 0 → AcceptedLayout s r
-  pub if-refused : (s : List ℕ) {r : Layout} → r ≡ layoutOf (readFile s) → (r .number ≡ 0 → ⊥)
+  pub if-accepted : (s : List ℕ) {r : Layout} → r ≡ layoutOf (readFile s) → r .number ≡ refusals.accepted → AcceptedLayout s r
+  pub if-refused : (s : List ℕ) {r : Layout} → r ≡ layoutOf (readFile s) → (r .number ≡ refusals.accepted → ⊥)
       → (readFile s ≡ refused (r .number) (r .place)) × (r .end ≡ 0)
-  -- a refusal has one of the numbers 1, 2 and 4
-  pub numbers : (s : List ℕ) {n p : ℕ} → readFile s ≡ refused n p → (1 ≤ n) × (n ≤ 4)
+  -- a refusal has one of the numbers 1 to 4
+  pub numbers : (s : List ℕ) {n p : ℕ} → readFile s ≡ refused n p → (cutShort ≤ n) × (n ≤ tooLong)
   pub inside : (s : List ℕ) {r : Layout} → r ≡ layoutOf (readFile s) → r .end ≤ length s
   pub term-length : {s : List ℕ} {e : ℕ} {gs : List GroupAt} → HasFields s e gs → 3 + length (termBytes s e) ≡ e
   pub room : {s : List ℕ} {at : ℕ} {gs : List GroupAt} → Groups s at gs → at + 6 * length gs ≤ length s

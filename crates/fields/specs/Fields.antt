@@ -10,6 +10,7 @@ use Rattle.calculus.specs.Steps.{Step}
 use Rattle.calculus.specs.Rules.{Group}
 use Rattle.code.specs.Limits.{longestFile}
 use Rattle.code.specs.Refusals.{cutShort, wrongField, tooLong}
+use Rattle.code.specs.Refusals as refusals
 use Rattle.fields.specs.declared.Field.{Field}
 use Rattle.fields.specs.declared.Field.the-variants.{Fault, End}
 use Rattle.fields.specs.declared.Layout.{Layout}
@@ -98,7 +99,7 @@ readFile s = cond (ltb longestFile (length s)) (refused tooLong 0) (thenFields (
 -- The same in numbers: number and place, the end of the term's body (0 where refused), and how many groups, n and those that follow.
 abbrev pub layoutWith : ℕ → Fields → Layout
 layoutWith n (refused k p) = record { number = k; place = p; end = 0; groups = 0 }
-layoutWith n (accepted e gs) = record { number = 0; place = 0; end = e; groups = n + length gs }
+layoutWith n (accepted e gs) = record { number = refusals.accepted; place = 0; end = e; groups = n + length gs }
 
 abbrev pub layoutOf : Fields → Layout
 layoutOf = layoutWith 0

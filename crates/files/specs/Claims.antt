@@ -10,6 +10,7 @@ use Rattle.calculus.specs.Types.{degree}
 use Rattle.calculus.specs.Rules.{Group, own, Comparison, plainNext, Plain, OnePass, groups}
 use Rattle.calculus.specs.Walks.{AllMet, End, WalkFrom}
 use Rattle.code.specs.Limits.{longestFile, longestTerm}
+use Rattle.code.specs.Refusals.{accepted, cutShort, tooManyInScope, noType, groupsLeft}
 use Rattle.code.specs.Code.{Bytes, encode}
 use Rattle.fields.specs.Files.{writeFile}
 use Rattle.verdict.specs.Claims.{Within}
@@ -32,10 +33,11 @@ pub record Accepted (s : List ℕ) (comparisons degree-given : ℕ) : Type 0 whe
   pub plain-met : {cs : List Comparison} {e : End} → WalkFrom plainNext (own ε [] term) cs e → AllMet cs
   pub degree-is : degree-given ≡ degree ε term
 
--- What it is for it to be refused with that number: before the walk, with nothing compared; or later, where it holds a term and groups.
+-- What it is for it to be refused with that number: 1 to 6 before the walk, with nothing compared; 7 to 13 later, where it holds a term
+-- and groups.
 pub data Refused (s : List ℕ) (number comparisons degree-given : ℕ) : Type 0 where
-  before-the-walk : 1 ≤ number → number ≤ 6 → comparisons ≡ 0 → degree-given ≡ 0 → Refused s number comparisons degree-given
-  later : (term : Term) (steps : List Group) → s ≡ writeFile (encode term) steps → Closed 0 term → 7 ≤ number → number ≤ 13
+  before-the-walk : cutShort ≤ number → number ≤ tooManyInScope → comparisons ≡ 0 → degree-given ≡ 0 → Refused s number comparisons degree-given
+  later : (term : Term) (steps : List Group) → s ≡ writeFile (encode term) steps → Closed 0 term → noType ≤ number → number ≤ groupsLeft
       → comparisons ≤ applicators term → comparisons ≤ length steps → degree-given ≡ degree ε term → Refused s number comparisons degree-given
 
 -- 'if some choice of steps keeps term, file, states and compared forms within the limits': the steps of d do.
@@ -47,12 +49,12 @@ pub record WithinLimits (t : Term) (d : OnePass (own ε [] t)) : Type 0 where
 -- Demand 2: acceptance only for a correct term; and every correct term has an accepted file, within the limits: that of its steps,
 -- which is a string of bytes. With demand 3's count, of every accepted file.
 pub record Accepting : Type 0 where
-  pub only : (s : List ℕ) → Bytes s → checkFile s .number ≡ 0 → Accepted s (checkFile s .comparisons) (checkFile s .degree)
+  pub only : (s : List ℕ) → Bytes s → checkFile s .number ≡ accepted → Accepted s (checkFile s .comparisons) (checkFile s .degree)
   pub all : (t : Term) (d : OnePass (own ε [] t)) → WithinLimits t d
       → Bytes (writeFile (encode t) (groups d))
-      × (checkFile (writeFile (encode t) (groups d)) ≡ record { number = 0; place = 0; comparisons = applicators t; degree = degree ε t })
+      × (checkFile (writeFile (encode t) (groups d)) ≡ record { number = accepted; place = 0; comparisons = applicators t; degree = degree ε t })
 
 -- Demands 1 and 3 for refusals: before the walk the number is one of 1 to 6 and nothing was compared; later it is one of 7 to 13, and
 -- the comparisons are at most the applicators and at most the groups.
 pub record Refusing : Type 0 where
-  pub otherwise : (s : List ℕ) → Bytes s → (checkFile s .number ≡ 0 → ⊥) → Refused s (checkFile s .number) (checkFile s .comparisons) (checkFile s .degree)
+  pub otherwise : (s : List ℕ) → Bytes s → (checkFile s .number ≡ accepted → ⊥) → Refused s (checkFile s .number) (checkFile s .comparisons) (checkFile s .degree)

@@ -10,6 +10,7 @@ use Rattle.calculus.specs.Frames.{Frame, ε, _▹_, single, pair}
 use Rattle.calculus.specs.Steps.{Step, step, reached}
 use Rattle.calculus.specs.Rules.{Group, Same, liftAll, State, own, Next, asks, stops, onePassNext, Holds, nothing-left, met, by-rule, OnePass, groups}
 use Rattle.calculus.specs.Walks.{ownStates}
+use Rattle.code.specs.Refusals.{noType, bodiesDiffer}
 use Rattle.verdict.specs.Bounds.{stateFits, bodyFits}
 use Rattle.verdict.specs.Verdict.{Item, state-at, same-at, placed, Ground, state-outgrown, not-reached, groundOf, Progress, turned, Run, passed, stopped, andThen, Status, at-turn, done, turn, steps, finish, start, checkTerm, number}
 
@@ -59,8 +60,8 @@ pub record Stopping : Type 0 where
   pub at-most-applicators : (t : Term) (gs : List Group) → progressOf (checkTerm t gs) .comparisons ≤ applicators t
   pub at-most-groups : (t : Term) (gs : List Group) → progressOf (checkTerm t gs) .comparisons ≤ length gs
   pub all-applicators : (t : Term) (gs : List Group) (q : Progress) → checkTerm t gs ≡ passed q → q .comparisons ≡ applicators t
-  -- so that 8 has a last of W
-  pub numbers : (t : Term) (gs : List Group) (g : Ground) (q : Progress) → Closed 0 t → checkTerm t gs ≡ stopped g q → (7 ≤ number g) × (number g ≤ 12)
+  -- 7 to 12: no check of a closed term stops at `not-reached`, so that 8 has a last of W
+  pub numbers : (t : Term) (gs : List Group) (g : Ground) (q : Progress) → Closed 0 t → checkTerm t gs ≡ stopped g q → (noType ≤ number g) × (number g ≤ bodiesDiffer)
 
 -- 3. An agenda is checked question by question.
 -- A state that fits, and then what replaces it.
