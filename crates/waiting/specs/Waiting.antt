@@ -121,7 +121,7 @@ pub record TopAsked (s q w : List ℕ) (d limit base top to : ℕ) : Type 0 wher
   pub queue : Queue s q d limit base top (last ∷ others)
   pub room : to + suc (size (last .term)) ≤ longestState
   pub shallow : d + scope (last .term) ≤ mostAbstractors
-  pub few : top ≤ 4096
+  pub few : top ≤ longestTerm
 
 pub record TopPut (s q w w′ : List ℕ) (d limit base top to r : ℕ) : Type 0 where
   pub all : (x : Waiting) (W : List Waiting) → Queue s q d limit base top (x ∷ W) → WrittenTerm 0xfe w w′ to r (x .term)

@@ -3,7 +3,7 @@ ghost use mathlib.Core.Path.{_≡_};
 ghost use mathlib.Core.Bool.{false};
 ghost use Prim.Native.Nat.{_+_, _-_, _*_, _≤_, _<_, max};
 ghost use lib.ListN.{length};
-ghost use Rattle.code.specs.Limits.{longestState};
+ghost use Rattle.code.specs.Limits.{longestTerm, longestState};
 ghost use Rattle.waiting.specs.Waiting.{queueLength, slotOf, within, SmallSlot, Noted, WaitingExtent, Fitted, Moved, Writable, Puts, TopAsked, TopPut};
 use code::numbers::LONGEST_STATE;
 use code::numbers::LONGEST_TERM;
@@ -44,7 +44,7 @@ pub fn wide16(x: u16) -> usize
 
 // ---- Waiting applicators.
 pub fn slot_at(q: &Queue, j: usize) -> Slot
-    requires { ⌜ j < 4096 ⌝ }
+    requires { ⌜ j < longestTerm ⌝ }
     ensures { λ r. ⌜ (r ≡ slotOf (now (q .entry)) j) × SmallSlot r ⌝ }
 {
     Slot {
@@ -59,7 +59,7 @@ pub fn slot_at(q: &Queue, j: usize) -> Slot
 }
 
 pub fn store_slot(q: &mut Queue, j: usize, v: Slot)
-    requires { ⌜ (j < 4096) × (length (now q) ≡ queueLength) × SmallSlot v ⌝ }
+    requires { ⌜ (j < longestTerm) × (length (now q) ≡ queueLength) × SmallSlot v ⌝ }
     ensures { λ r. ⌜ Noted (now (q .entry)) (now (q .exit)) j v ⌝ }
 {
     q[7 * j] = v.size as u16;
@@ -72,7 +72,7 @@ pub fn store_slot(q: &mut Queue, j: usize, v: Slot)
 }
 
 pub fn waiting_extent(q: &Queue, base: usize, top: usize) -> Extent
-    requires { ⌜ (base ≤ top) × (top ≤ 4096) ⌝ }
+    requires { ⌜ (base ≤ top) × (top ≤ longestTerm) ⌝ }
     ensures { λ r. ⌜ WaitingExtent (now (q .entry)) base top r ⌝ }
 {
     if top == base {
@@ -97,7 +97,7 @@ pub fn fits(
     size: usize,
     scope: usize,
 ) -> bool
-    requires { ⌜ (base ≤ top) × (top ≤ 4096) × (ytop ≤ 4096) × (end < 65536) × (depth < 65536) × (size < 65536) × (scope < 65536) ⌝ }
+    requires { ⌜ (base ≤ top) × (top ≤ longestTerm) × (ytop ≤ longestTerm) × (end < 65536) × (depth < 65536) × (size < 65536) × (scope < 65536) ⌝ }
     ensures { λ r. ⌜ Fitted (now (ws .entry)) (now (ys .entry)) base top ytop end depth size scope r ⌝ }
 {
     let w = waiting_extent(ws, base, top);

@@ -7,6 +7,7 @@ use lib.ListN.{length, getD}
 use Rattle.calculus.specs.Terms.{Term, tau, var, app, abs, size, Closed}
 use Rattle.calculus.specs.Frames.{single, pair, Frame, _▹_}
 use Rattle.code.specs.Limits.{longestFile, longestTerm, longestState, mostAbstractors}
+use Rattle.code.specs.Refusals.{accepted}
 use Rattle.code.specs.Code.{encode}
 use Rattle.code.specs.Claims.{Stands}
 use Rattle.code.specs.Scope.{scope}
@@ -57,8 +58,8 @@ pub record AbsHere (t : List ℕ) (at : ℕ) : Type 0 where
   pub no-app : getD t at 0 ≡ 0xfe → ⊥
 
 pub data Continues (file t w ws ys : List ℕ) (base : ℕ) (r : Advance) : Run → Type 0 where
-  pass-stops : {x : Run} → (r .out .number ≡ 0 → ⊥) → Says file (r .out) x → Continues file t w ws ys base r x
-  pass-goes : {x : Run} {R : Frame} {W : List Waiting} {B : Term} {p : Progress} → r .out .number ≡ 0
+  pass-stops : {x : Run} → (r .out .number ≡ accepted → ⊥) → Says file (r .out) x → Continues file t w ws ys base r x
+  pass-goes : {x : Run} {R : Frame} {W : List Waiting} {B : Term} {p : Progress} → r .out .number ≡ accepted
       → OwnAt file t w ws ys base (r .top) (r .at) (r .frame) (r .out .next) (r .out .comparisons) R W B p → x ≡ ownFrom (r .at) R W B p → Continues file t w ws ys base r x
 
 pub record Passes (file t w w′ ws ws′ ys : List ℕ) (base top at : ℕ) (f : FrameRecord) (next count : ℕ) (r : Advance) : Type 0 where
@@ -119,8 +120,8 @@ pub record Walkable (file t : List ℕ) (at : ℕ) : Type 0 where
 
 -- The answer is the definition's: its number, place, comparisons, and where the groups left stand.
 pub data Answers (file : List ℕ) (r : Walked) : Run → Type 0 where
-  answer-passed : {q : Progress} (gs : List GroupAt) → r .number ≡ 0 → r .comparisons ≡ q .comparisons → q .left ≡ map (λ g. g .group) gs → Groups file (r .next) gs → Answers file r (passed q)
-  answer-stopped : {g : Ground} {q : Progress} → r .number ≡ number g → (r .number ≡ 0 → ⊥) → r .place ≡ placeOf g → r .comparisons ≡ q .comparisons → Answers file r (stopped g q)
+  answer-passed : {q : Progress} (gs : List GroupAt) → r .number ≡ accepted → r .comparisons ≡ q .comparisons → q .left ≡ map (λ g. g .group) gs → Groups file (r .next) gs → Answers file r (passed q)
+  answer-stopped : {g : Ground} {q : Progress} → r .number ≡ number g → (r .number ≡ accepted → ⊥) → r .place ≡ placeOf g → r .comparisons ≡ q .comparisons → Answers file r (stopped g q)
 
 pub record WalkAnswer (file t : List ℕ) (at : ℕ) (r : Walked) : Type 0 where
   pub all : (T : Term) (gs : List GroupAt) → encode T ≡ t → Closed 0 T → scope T ≤ mostAbstractors → Groups file at gs → Answers file r (checkTerm T (map (λ g. g .group) gs))

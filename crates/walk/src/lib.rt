@@ -3,6 +3,8 @@ ghost use mathlib.Core.Path.{_≡_};
 ghost use Prim.Native.Nat.{_+_, _-_, _≤_, _<_};
 ghost use lib.ListN.{length, getD};
 ghost use Rattle.code.specs.Code.{Tabled};
+ghost use Rattle.code.specs.Limits.{longestTerm};
+ghost use Rattle.code.specs.Refusals.{accepted};
 ghost use Rattle.frames.specs.Stored.{recordOf};
 ghost use Rattle.compare.specs.Sides.{Buffers};
 ghost use Rattle.walk.specs.State.{Sized};
@@ -67,7 +69,7 @@ fn pass_app(
     out: Walked,
     m: usize,
 ) -> Advance
-    requires { ⌜ OwnReady (now file) (now t) (now work) (now ws) (now ys) base top at f (out .next) (out .comparisons) × InnerEnd (now t) (now scopes) at m × (getD (now t) at 0 ≡ 0xfe) × (out .number ≡ 0) ⌝ }
+    requires { ⌜ OwnReady (now file) (now t) (now work) (now ws) (now ys) base top at f (out .next) (out .comparisons) × InnerEnd (now t) (now scopes) at m × (getD (now t) at 0 ≡ 0xfe) × (out .number ≡ accepted) ⌝ }
     ensures { λ r. ⌜ Passes (now (file .entry)) (now (t .entry)) (now (work .entry)) (now (work .entry)) (now (ws .entry)) (now (ws .exit)) (now (ys .entry)) base top at f (out .next) (out .comparisons) r ⌝ }
 {
     let y = waiting_extent(ws, base, top);
@@ -104,7 +106,7 @@ fn pass_alone(
     out: Walked,
     m: usize,
 ) -> Advance
-    requires { ⌜ OwnReady (now file) (now t) (now work) (now ws) (now ys) base top at f (out .next) (out .comparisons) × InnerEnd (now t) (now scopes) at m × AbsHere (now t) at × (out .number ≡ 0) × (top ≡ base) ⌝ }
+    requires { ⌜ OwnReady (now file) (now t) (now work) (now ws) (now ys) base top at f (out .next) (out .comparisons) × InnerEnd (now t) (now scopes) at m × AbsHere (now t) at × (out .number ≡ accepted) × (top ≡ base) ⌝ }
     ensures { λ r. ⌜ Passes (now (file .entry)) (now (t .entry)) (now (work .entry)) (now (work .exit)) (now (ws .entry)) (now (ws .entry)) (now (ys .entry)) base top at f (out .next) (out .comparisons) r ⌝ }
 {
     let to = f.end;
@@ -135,7 +137,7 @@ fn pass_pair(
     out: Walked,
     m: usize,
 ) -> Advance
-    requires { ⌜ OwnReady (now file) (now t) (now work) (now ws) (now ys) base top at f (out .next) (out .comparisons) × InnerEnd (now t) (now scopes) at m × AbsHere (now t) at × (out .number ≡ 0) × (top ≡ base → ⊥) × Buffers (now left) (now right) ⌝ }
+    requires { ⌜ OwnReady (now file) (now t) (now work) (now ws) (now ys) base top at f (out .next) (out .comparisons) × InnerEnd (now t) (now scopes) at m × AbsHere (now t) at × (out .number ≡ accepted) × (top ≡ base → ⊥) × Buffers (now left) (now right) ⌝ }
     ensures { λ r. ⌜ Passes (now (file .entry)) (now (t .entry)) (now (work .entry)) (now (work .exit)) (now (ws .entry)) (now (ws .entry)) (now (ys .entry)) base top at f (out .next) (out .comparisons) r × Buffers (now (left .exit)) (now (right .exit)) ⌝ }
 {
     let to = f.end;
@@ -189,7 +191,7 @@ fn pass(
     f: FrameRecord,
     out: Walked,
 ) -> Advance
-    requires { ⌜ OwnReady (now file) (now t) (now work) (now ws) (now ys) base top at f (out .next) (out .comparisons) × Sized (now t) (now sizes) (now scopes) × (0xfe ≤ getD (now t) at 0) × (out .number ≡ 0) × Buffers (now left) (now right) ⌝ }
+    requires { ⌜ OwnReady (now file) (now t) (now work) (now ws) (now ys) base top at f (out .next) (out .comparisons) × Sized (now t) (now sizes) (now scopes) × (0xfe ≤ getD (now t) at 0) × (out .number ≡ accepted) × Buffers (now left) (now right) ⌝ }
     ensures { λ r. ⌜ Passes (now (file .entry)) (now (t .entry)) (now (work .entry)) (now (work .exit)) (now (ws .entry)) (now (ws .exit)) (now (ys .entry)) base top at f (out .next) (out .comparisons) r × Buffers (now (left .exit)) (now (right .exit)) ⌝ }
 {
     let m = at + 1 + wide16(sizes[at + 1]);
@@ -502,7 +504,7 @@ fn extent_at(t: &[u8], sizes: &Extents, scopes: &Extents, i: usize) -> Extent
 
 // Those of all the terms that stand in t, from the right.
 fn size_all(t: &[u8], sizes: &mut Extents, scopes: &mut Extents)
-    requires { ⌜ WholeTerm (now t) × (length (now sizes) ≡ 4096) × (length (now scopes) ≡ 4096) ⌝ }
+    requires { ⌜ WholeTerm (now t) × (length (now sizes) ≡ longestTerm) × (length (now scopes) ≡ longestTerm) ⌝ }
     ensures { λ r. ⌜ Sized (now (t .entry)) (now (sizes .exit)) (now (scopes .exit)) ⌝ }
 {
     let mut i = t.len();
