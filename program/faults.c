@@ -1,5 +1,5 @@
-/* Loaded before the C library by program/test: every other read is interrupted, a read or write moves few bytes, and each write to
-   standard output is told of on standard error. */
+/* Loaded before the C library by program/test: every other read is interrupted, a read or write moves few bytes, a read fails in the
+   middle, and each write to standard output is told of on standard error. */
 #define _GNU_SOURCE
 #include <dlfcn.h>
 #include <errno.h>
@@ -20,6 +20,11 @@ ssize_t read(int fd, void *bytes, size_t n) {
         next = (ssize_t(*)(int, void *, size_t))dlsym(RTLD_NEXT, "read");
     if (calls++ % 2 == 0) {
         errno = EINTR;
+        return -1;
+    }
+    const char *after = getenv("READ_FAILS_AFTER");
+    if (after && calls / 2 > atoi(after)) {
+        errno = EIO;
         return -1;
     }
     return next(fd, bytes, least(n, "READ_AT_MOST"));
