@@ -63,10 +63,10 @@ fn read_field(s: &[u8], at: usize, tag: u8, unit: usize) -> Field
     if s.len() - at < 3 {
         return Field::Fault(CUT_SHORT, at); // the head is cut short
     }
-    let t = s[at];
+    let found = s[at];
     let n = word_at(s, at + 1);
     let left = s.len() - (at + 3);
-    if t != tag {
+    if found != tag {
         return Field::Fault(WRONG_FIELD, at); // another tag
     }
     if left < n {

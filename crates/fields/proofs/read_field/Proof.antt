@@ -15,8 +15,8 @@ sub-if1 c = search needs
 returns : tie.Need-returns
 returns c = sym (head-cut _ _ _ _ (omega arith))
 
-shared-slice-read-t : tie.Need-shared-slice-read-t
-shared-slice-read-t c = search needs
+shared-slice-read-found : tie.Need-shared-slice-read-found
+shared-slice-read-found c = search needs
 
 add-word-at : tie.Need-add-word-at
 add-word-at c = search needs
@@ -61,7 +61,7 @@ read-field-spec =
     (tie.spec
     sub-if1
     returns
-    shared-slice-read-t
+    shared-slice-read-found
     add-word-at
     word-at-requires
     add-left
