@@ -1,4 +1,4 @@
--- The check as a recursion over the term: the same answer (specs/Claims.antt, 5). The code is written so.
+-- The check as a recursion over the term, as the code is written: the answer is the machine's (specs/Claims.antt).
 -- Assumes nothing.
 use Prim.Native.Nat.{ℕ, zero, suc, _+_, _*_}
 use mathlib.Core.Bool.{Bool, true, false, cond}
