@@ -113,18 +113,18 @@ pub record Alone (W : List ℕ) (f : FrameRecord) (s : List ℕ) (n p k : ℕ) :
   pub all : {R : Frame} {t : Term} → Held W f s n R t → (w : Way t p (var k)) → (o : Entry) × (entryAt (frameAt R none w) k ≡ some o) × (partner o ≡ none)
 
 module _ {W : List ℕ} {f : FrameRecord} {s : List ℕ} {n p k : ℕ} (g : InBody W f s n p) (e : k ≡ symbolOf (getD s p 0)) (a : 1 ≤ k) (b : k < applicator) where
-  pub puttable : {x : Source} {choose : Entry → Option Term} → Supplies W f s n p k x choose → Puttable W f s n p x
+  pub puttable : {x : Source} {choose : Entry → Option Term} → Supplies W f s n p k x choose → Puttable W (f .len) s n p x
   puttable c = let y = g .some-held .held in let w = variable-way y (g .inside) e a b in
-      record { frame = g .some-held .frame; body = g .some-held .term; k = k; way = w; held = y; term = c .all y w .term; source = c .all y w .source }
+      record { frames = f; entries = refl; frame = g .some-held .frame; body = g .some-held .term; k = k; way = w; held = y; term = c .all y w .term; source = c .all y w .source }
 
-  pub local-put : {x : Source} {s′ : List ℕ} {r : Form} → Supplies W f s n p k x partner → Puts W f s s′ n p x r → Steps W f s s′ n (record { kind = 1; place = p }) r
+  pub local-put : {x : Source} {s′ : List ℕ} {r : Form} → Supplies W f s n p k x partner → Puts W (f .len) s s′ n p x r → Steps W f s s′ n (record { kind = 1; place = p }) r
   unfolding mapOutcome
   local-put {s′ = s′} {r} c d = record { all = λ R t y. go R t y (variable-way y (g .inside) e a b); same-length = d .same-length }
     where
       go : (R : Frame) (t : Term) (y : Held W f s n R t) → Way t p (var k) → SteppedAs W f s′ R (record { kind = 1; place = p }) t r
       go R t y w = let z = c .all y w in
           let q : step R (record { kind = 1; place = p }) t ≡ reached (put w (lift k 0 (z .term))) = local-here R w (z .means) ∙ ap (mapOutcome (put w)) (reduce-partner k (z .entry) (z .chosen)) in
-          step-reached q (d .all R t k w (z .term) y (z .source) (closedness .step-closed (record { kind = 1; place = p }) (y .closed-frame) (y .closed) q))
+          step-reached q (d .all f refl R t k w (z .term) y (z .source) (closedness .step-closed (record { kind = 1; place = p }) (y .closed-frame) (y .closed) q))
 
   pub local-alone : Alone W f s n p k → Steps W f s s n (record { kind = 1; place = p }) (Refused 4)
   unfolding mapOutcome reasonNumber
@@ -171,14 +171,14 @@ module _ {W : List ℕ} {f : FrameRecord} {s : List ℕ} {n k : ℕ} (g : SomeHe
   unfolding reasonNumber
   no-type-there z = record { all = λ R t y. no-type (last-tau y (sym e ∙ z)) refl; same-length = refl }
 
-  pub type-put : {x : Source} {s′ : List ℕ} {r : Form} → 1 ≤ k → Supplies W f s n (n - 1) k x ownDomain → Puts W f s s′ n (n - 1) x r → Types W f s s′ n r
+  pub type-put : {x : Source} {s′ : List ℕ} {r : Form} → 1 ≤ k → Supplies W f s n (n - 1) k x ownDomain → Puts W (f .len) s s′ n (n - 1) x r → Types W f s s′ n r
   unfolding typeOfVar ownDomain
   type-put {s′ = s′} {r} l c d = record { all = λ R t y. go R t y (last-variable y e l); same-length = d .same-length }
     where
       go : (R : Frame) (t : Term) (y : Held W f s n R t) → LastVariable t (n - 1) k → TypedAs W f s′ R t r
       go R t y v = let w = v .way in let z = c .all y w in
           let q : type R t ≡ some (put w (lift k 0 (z .term))) = v .types R ∙ ap (λ o. Option·map (put w) (typeOfVar k o)) (z .means) ∙ ap (λ u. some (put w (lift k 0 u))) (some-inj (z .chosen)) in
-          typed q (d .all R t k w (z .term) y (z .source) (closedness .type-closed (y .closed-frame) (y .closed) q))
+          typed q (d .all f refl R t k w (z .term) y (z .source) (closedness .type-closed (y .closed-frame) (y .closed) q))
 
 -- ---- The entry that a variable means, within the body.
 record DomainThere (s : List ℕ) (p from m c : ℕ) (U : Term) : Type 0 where

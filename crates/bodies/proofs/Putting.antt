@@ -116,7 +116,7 @@ module _ {w s : List ℕ} {p k d h room : ℕ} {x : Source} (g : Sourced w s p k
                 (shallow i)
 
 -- ---- `put`.
-module _ {w : List ℕ} {f : FrameRecord} {s : List ℕ} {n p : ℕ} {x : Source} (g : Puttable w f s n p x) where
+module _ {w : List ℕ} {len : ℕ} {s : List ℕ} {n p : ℕ} {x : Source} (g : Puttable w len s n p x) where
   at : At s n p (g .frame) (g .way)
   at = at-way (g .held) (g .way)
 
@@ -124,33 +124,33 @@ module _ {w : List ℕ} {f : FrameRecord} {s : List ℕ} {n p : ℕ} {x : Source
   unfolding size
   put-bounds = (source-end (g .source) .0, omega (arith, at .inside), omega (arith, at .inside), at .most, g .held .array, ⊎-elim (λ l. omega (arith, g .held .stored .work)) (λ l. omega (arith, at .inside, at .most)) (source-end (g .source) .1))
 
-  pub put-long : longestTerm < n - 1 + (x .end - x .start) → Puts w f s s n p x Outgrown
+  pub put-long : longestTerm < n - 1 + (x .end - x .start) → Puts w len s s n p x Outgrown
   unfolding size
-  put-long l = record { all = λ R t k way K y i c. too-long y way (lift k 0 K) (omega (arith, put-bounds, source-size i, size-lift k 0 K)); same-length = refl }
+  put-long l = record { all = λ f o R t k way K y i c. too-long y way (lift k 0 K) (omega (arith, put-bounds, source-size i, size-lift k 0 K)); same-length = refl }
 
   module _ {d : ℕ} (e : d ≡ depthOf (getD s p 0)) where
-    deep-is : {R : Frame} {t : Term} {k : ℕ} (y : Held w f s n R t) (way : Way t p (var k)) → d ≡ depthAt 0 way
+    deep-is : {f : FrameRecord} {R : Frame} {t : Term} {k : ℕ} (y : Held w f s n R t) (way : Way t p (var k)) → d ≡ depthAt 0 way
     deep-is y way = e ∙ at-way y way .deep
 
-    pub put-room : f .len + d ≤ mostAbstractors
-    put-room = omega (arith, at .shallow, deep-is (g .held) (g .way), stored-depth (g .held .stored))
+    pub put-room : len + d ≤ mostAbstractors
+    put-room = omega (arith, at .shallow, deep-is (g .held) (g .way), stored-depth (g .held .stored), g .entries)
 
     module _ {k h : ℕ} (a : k ≡ symbolOf (getD s p 0)) (b : h ≡ heightOf (getD s p 0)) (l : n - 1 + (x .end - x .start) ≤ longestTerm)
         {s₁ : List ℕ} (c : Copied s (p + 1) n s s₁ (p + 1 + (x .end - x .start - 1))) where
       moved : Copied s (p + 1) n s s₁ (p + (x .end - x .start))
       moved = subst (Copied s (p + 1) n s s₁) (omega (arith, put-bounds)) c
 
-      index-is : {R : Frame} {t : Term} {j : ℕ} (y : Held w f s n R t) (way : Way t p (var j)) → k ≡ j
+      index-is : {f : FrameRecord} {R : Frame} {t : Term} {j : ℕ} (y : Held w f s n R t) (way : Way t p (var j)) → k ≡ j
       unfolding first
       index-is y way = a ∙ at-way y way .symbol
 
-      high-is : {R : Frame} {t : Term} {j : ℕ} (y : Held w f s n R t) (way : Way t p (var j)) → h ≡ heightAt 0 way
+      high-is : {f : FrameRecord} {R : Frame} {t : Term} {j : ℕ} (y : Held w f s n R t) (way : Way t p (var j)) → h ≡ heightAt 0 way
       high-is y way = b ∙ at-way y way .high
 
-      source-now : {R : Frame} {t : Term} {j : ℕ} {K : Term} (y : Held w f s n R t) (way : Way t p (var j)) → SourceIs w s p j (depthAt 0 way) x K → SourceIs w s₁ p k d x K
+      source-now : {f : FrameRecord} {R : Frame} {t : Term} {j : ℕ} {K : Term} (y : Held w f s n R t) (way : Way t p (var j)) → SourceIs w s p j (depthAt 0 way) x K → SourceIs w s₁ p k d x K
       source-now {j = j} {K} y way i = subst (λ z. SourceIs w s₁ p z d x K) (sym (index-is y way)) (subst (λ z. SourceIs w s₁ p j z x K) (sym (deep-is y way)) (source-moved moved (omega arith) i))
 
-      pub put-sourced : Sourced w s₁ p k d h (mostAbstractors - f .len - d) x
+      pub put-sourced : Sourced w s₁ p k d h (mostAbstractors - len - d) x
       put-sourced = record {
         work = g .held .stored .work;
         array = c .same-length ∙ g .held .array;
@@ -162,27 +162,27 @@ module _ {w : List ℕ} {f : FrameRecord} {s : List ℕ} {n p : ℕ} {x : Source
         fits = omega (arith, put-bounds);
       }
 
-      module _ {s′ : List ℕ} {r : Bool} (o : SourceWritten w s₁ s′ p k d h (mostAbstractors - f .len - d) x r) where
-        written : {R : Frame} {t : Term} {j : ℕ} {K : Term} (y : Held w f s n R t) (way : Way t p (var j)) → SourceIs w s p j (depthAt 0 way) x K → ReadAs k d h (mostAbstractors - f .len - d) s₁ s′ p K r
+      module _ {s′ : List ℕ} {r : Bool} (o : SourceWritten w s₁ s′ p k d h (mostAbstractors - len - d) x r) where
+        written : {f : FrameRecord} {R : Frame} {t : Term} {j : ℕ} {K : Term} (y : Held w f s n R t) (way : Way t p (var j)) → SourceIs w s p j (depthAt 0 way) x K → ReadAs k d h (mostAbstractors - len - d) s₁ s′ p K r
         written {K = K} y way i = o .all K (source-now y way i)
 
         same-length : length s′ ≡ length s
         same-length = o .same-length ∙ c .same-length
 
-        pub put-deep : r ≡ false → Puts w f s s′ n p x Outgrown
-        put-deep q = record { all = λ R t j way K y i u. go y way i (subst (ReadAs k d h (mostAbstractors - f .len - d) s₁ s′ p K) q (written y way i)); same-length = same-length }
+        pub put-deep : r ≡ false → Puts w len s s′ n p x Outgrown
+        put-deep q = record { all = λ f m R t j way K y i u. go y m way i (subst (ReadAs k d h (mostAbstractors - len - d) s₁ s′ p K) q (written y way i)); same-length = same-length }
           where
-            go : {R : Frame} {t : Term} {j : ℕ} {K : Term} (y : Held w f s n R t) (way : Way t p (var j)) → SourceIs w s p j (depthAt 0 way) x K → ReadAs k d h (mostAbstractors - f .len - d) s₁ s′ p K false
+            go : {f : FrameRecord} {R : Frame} {t : Term} {j : ℕ} {K : Term} (y : Held w f s n R t) → f .len ≡ len → (way : Way t p (var j)) → SourceIs w s p j (depthAt 0 way) x K → ReadAs k d h (mostAbstractors - len - d) s₁ s′ p K false
                 → FormAs w f s′ R (put way (lift j 0 K)) Outgrown
-            go {j = j} {K} y way i (reading.too-deep z) = too-deep y way (lift j 0 K) (omega (arith, scope-lift j 0 K, deep-is y way, stored-depth (y .stored), put-room))
+            go {j = j} {K} y m way i (reading.too-deep z) = too-deep y way (lift j 0 K) (omega (arith, scope-lift j 0 K, deep-is y way, stored-depth (y .stored), put-room))
 
-        pub put-done : r ≡ true → Puts w f s s′ n p x (Length (n - 1 + (x .end - x .start)))
+        pub put-done : r ≡ true → Puts w len s s′ n p x (Length (n - 1 + (x .end - x .start)))
         unfolding size
-        put-done q = record { all = λ R t j way K y i u. go y way i u (subst (ReadAs k d h (mostAbstractors - f .len - d) s₁ s′ p K) q (written y way i)); same-length = same-length }
+        put-done q = record { all = λ f o R t j way K y i u. go y o way i u (subst (ReadAs k d h (mostAbstractors - len - d) s₁ s′ p K) q (written y way i)); same-length = same-length }
           where
-            go : {R : Frame} {t : Term} {j : ℕ} {K : Term} (y : Held w f s n R t) (way : Way t p (var j)) → SourceIs w s p j (depthAt 0 way) x K → Closed (depth R) (put way (lift j 0 K))
-                → ReadAs k d h (mostAbstractors - f .len - d) s₁ s′ p K true → FormAs w f s′ R (put way (lift j 0 K)) (Length (n - 1 + (x .end - x .start)))
-            go {j = j} {K} y way i u (read-all z m) =
+            go : {f : FrameRecord} {R : Frame} {t : Term} {j : ℕ} {K : Term} (y : Held w f s n R t) → f .len ≡ len → (way : Way t p (var j)) → SourceIs w s p j (depthAt 0 way) x K → Closed (depth R) (put way (lift j 0 K))
+                → ReadAs k d h (mostAbstractors - len - d) s₁ s′ p K true → FormAs w f s′ R (put way (lift j 0 K)) (Length (n - 1 + (x .end - x .start)))
+            go {j = j} {K} y o way i u (read-all z m) =
                 let v : letters d h (lift k 0 K) ≡ letters (depthAt 0 way) (heightAt 0 way) (lift j 0 K) = rw (deep-is y way, high-is y way, index-is y way) refl in
                 let count : length (letters (depthAt 0 way) (heightAt 0 way) (lift j 0 K)) ≡ x .end - x .start = length-letters (depthAt 0 way) (heightAt 0 way) (lift j 0 K) ∙ omega (arith, size-lift j 0 K, source-size i) in
                 put-held y way (lift j 0 K) u (omega (arith, scope-lift j 0 K, deep-is y way, stored-depth (y .stored), put-room)) l

@@ -38,18 +38,20 @@ pub record SourceWritten (w s s′ : List ℕ) (p k d h room : ℕ) (x : Source)
   pub all : (K : Term) → SourceIs w s p k d x K → ReadAs k d h room s s′ p K answer
   pub same-length : length s′ ≡ length s
 
--- Variable k stands at place p of a body, and a term for it where x says.
-pub record Puttable (w : List ℕ) (f : FrameRecord) (s : List ℕ) (n p : ℕ) (x : Source) : Type 0 where
+-- Variable k stands at place p of a body after a frame of len entries, and a term for it where x says.
+pub record Puttable (w : List ℕ) (len : ℕ) (s : List ℕ) (n p : ℕ) (x : Source) : Type 0 where
+  pub frames : FrameRecord
+  pub entries : frames .len ≡ len
   pub frame : Frame
   pub body : Term
   pub k : ℕ
   pub way : Way body p (var k)
-  pub held : Held w f s n frame body
+  pub held : Held w frames s n frame body
   pub term : Term
   pub source : SourceIs w s p k (depthAt 0 way) x term
 
 -- The body with that term in its place, which is closed, is over the limits, or s′ holds it.
-pub record Puts (w : List ℕ) (f : FrameRecord) (s s′ : List ℕ) (n p : ℕ) (x : Source) (r : Form) : Type 0 where
-  pub all : (R : Frame) (t : Term) (k : ℕ) (way : Way t p (var k)) (K : Term) → Held w f s n R t → SourceIs w s p k (depthAt 0 way) x K
+pub record Puts (w : List ℕ) (len : ℕ) (s s′ : List ℕ) (n p : ℕ) (x : Source) (r : Form) : Type 0 where
+  pub all : (f : FrameRecord) → f .len ≡ len → (R : Frame) (t : Term) (k : ℕ) (way : Way t p (var k)) (K : Term) → Held w f s n R t → SourceIs w s p k (depthAt 0 way) x K
       → Closed (depth R) (put way (lift k 0 K)) → FormAs w f s′ R (put way (lift k 0 K)) r
   pub same-length : length s′ ≡ length s

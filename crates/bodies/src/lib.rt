@@ -301,10 +301,10 @@ fn write_source(
     true
 }
 
-// The term that x says, lifted, takes the place of the variable at p of the body in the first n letters.
-fn put(s: &mut Letters, n: usize, work: &Work, f: FrameRecord, p: usize, x: Source) -> Form
-    requires { ⌜ Puttable (now work) f (now s) n p x ⌝ }
-    ensures { λ r. ⌜ Puts (now (work .entry)) f (now (s .entry)) (now (s .exit)) n p x r ⌝ }
+// The term that x says, lifted, takes the place of the variable at p of the body in the first n letters, after a frame of len entries.
+fn put(s: &mut Letters, n: usize, work: &Work, len: usize, p: usize, x: Source) -> Form
+    requires { ⌜ Puttable (now work) len (now s) n p x ⌝ }
+    ensures { λ r. ⌜ Puts (now (work .entry)) len (now (s .entry)) (now (s .exit)) n p x r ⌝ }
 {
     let size = x.end - x.start;
     let m = n - 1 + size;
@@ -313,7 +313,7 @@ fn put(s: &mut Letters, n: usize, work: &Work, f: FrameRecord, p: usize, x: Sour
     }
     let v = s[p];
     let d = depth_of(v);
-    let room = MOST_ABSTRACTORS - f.len - d;
+    let room = MOST_ABSTRACTORS - len - d;
     move_right(s, p + 1, n, size - 1);
     if !write_source(s, work, x, symbol_of(v), d, height_of(v), room, p) {
         return Form::Outgrown;
@@ -327,6 +327,7 @@ fn local(s: &mut Letters, n: usize, work: &Work, f: FrameRecord, p: usize) -> Fo
     requires { ⌜ InBody (now work) f (now s) n p ⌝ }
     ensures { λ r. ⌜ Steps (now (work .entry)) f (now (s .entry)) (now (s .exit)) n (record { kind = 1; place = p }) r ⌝ }
 {
+    let len = f.len;
     let v = s[p];
     let k = symbol_of(v);
     if k == 0 {
@@ -347,7 +348,7 @@ fn local(s: &mut Letters, n: usize, work: &Work, f: FrameRecord, p: usize) -> Fo
             start: applied,
             end: b.abstractor,
         };
-        return put(s, n, work, f, p, x);
+        return put(s, n, work, len, p, x);
     }
     let e = entry_at(work, f, k - d);
     let start = e.applied;
@@ -359,7 +360,7 @@ fn local(s: &mut Letters, n: usize, work: &Work, f: FrameRecord, p: usize) -> Fo
         start: start,
         end: e.domain - 1,
     };
-    put(s, n, work, f, p, x)
+    put(s, n, work, len, p, x)
 }
 
 // Kind 2 at place p.
@@ -419,6 +420,7 @@ pub fn type_in_place(s: &mut Letters, n: usize, work: &Work, f: FrameRecord) -> 
     requires { ⌜ SomeHeld (now work) f (now s) n ⌝ }
     ensures { λ r. ⌜ Types (now (work .entry)) f (now (s .entry)) (now (s .exit)) n r ⌝ }
 {
+    let len = f.len;
     let p = n - 1;
     let v = s[p];
     let k = symbol_of(v);
@@ -436,7 +438,7 @@ pub fn type_in_place(s: &mut Letters, n: usize, work: &Work, f: FrameRecord) -> 
             start: q + 1,
             end: end,
         };
-        return put(s, n, work, f, p, x);
+        return put(s, n, work, len, p, x);
     }
     let e = entry_at(work, f, k - d);
     let x = Source {
@@ -444,5 +446,5 @@ pub fn type_in_place(s: &mut Letters, n: usize, work: &Work, f: FrameRecord) -> 
         start: e.domain,
         end: e.end,
     };
-    put(s, n, work, f, p, x)
+    put(s, n, work, len, p, x)
 }

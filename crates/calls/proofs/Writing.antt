@@ -98,7 +98,7 @@ module _ {b : List ℕ} {n : ℕ} {t : Term} (h : InLetters b n t) (out : List �
   length-lies = omega (arith, length-encode t, h .lies .place)
 
   pub writable : n ≤ length out → Writable b n out
-  writable l = record { term = t; lies = h .lies; shallow = omega (arith, h .shallow); array = h .array; fits = l }
+  writable l = record { term = t; lies = h .lies; array = h .array; fits = l }
 
   pub too-short : length out < n → answer 14 0 0 out ≡ handed out (encode t)
   unfolding handed
@@ -106,7 +106,7 @@ module _ {b : List ℕ} {n : ℕ} {t : Term} (h : InLetters b n t) (out : List �
 
   pub long-enough : {out′ : List ℕ} → n ≤ length out → Writes b n out out′ → answer 0 0 n out′ ≡ handed out (encode t)
   unfolding handed
-  long-enough l d = rw (length-lies, le-leb n (length out) l, d .bytes t (h .lies) (omega (arith, h .shallow)))
+  long-enough l d = rw (length-lies, le-leb n (length out) l, d .bytes t (h .lies))
 
 -- ---- What the answer x has to be, by the form that the body was brought to; `unmet` is the answer where there is none.
 pub data Answers (b out : List ℕ) (unmet x : Written) : Form → Type 0 where
@@ -117,7 +117,7 @@ pub data Answers (b out : List ℕ) (unmet x : Written) : Form → Type 0 where
 form-answers : {w b out : List ℕ} {f : FrameRecord} {u : Term} {unmet x : Written} {r : Form} → FormAs w f b ε u r → written out u ≡ x → Answers b out unmet x r
 unfolding written depth
 form-answers (form-outgrown h) e = at-outgrown (rw h at e)
-form-answers (form-held h q y) e = at-letters (record { array = y .array; lies = y .lies; shallow = omega (arith, y .shallow) }) (rw h at e)
+form-answers (form-held h q y) e = at-letters (record { array = y .array; lies = y .lies }) (rw h at e)
 
 module _ {b out : List ℕ} {unmet x : Written} where
   pub answers-unmet : {r : Form} {y : ℕ} → Answers b out unmet x r → r ≡ Refused y → unmet ≡ x

@@ -13,9 +13,8 @@ use Rattle.calculus.specs.Frames.{ε}
 use Rattle.calculus.specs.Types.{type}
 use Rattle.calculus.specs.Steps.{Step, Outcome, step}
 use Rattle.calculus.specs.Steps as calculus
-use Rattle.code.specs.Limits.{longestTerm, mostAbstractors}
+use Rattle.code.specs.Limits.{longestTerm}
 use Rattle.code.specs.Code.{encode}
-use Rattle.code.specs.Scope.{scope}
 use Rattle.examine.specs.Inspect.{Examined, refused, accepted, examined}
 use Rattle.frames.specs.declared.FrameRecord.{FrameRecord}
 use Rattle.frames.specs.Stored.{Stored}
@@ -90,8 +89,7 @@ pub record AcceptedTerm (s : List ℕ) : Type 0 where
 pub record Opened (s b : List ℕ) : Type 0 where
   pub body : {w : List ℕ} {f : FrameRecord} (t : Term) → examined s ≡ accepted t → Stored w f ε → Held w f b (length s) ε t
 
--- The term t lies in n letters at the start of b, within the limits.
+-- The term t lies in n letters at the start of b.
 pub record InLetters (b : List ℕ) (n : ℕ) (t : Term) : Type 0 where
   pub array : length b ≡ longestTerm
   pub lies : Lies b 0 n 0 0 t
-  pub shallow : scope t ≤ mostAbstractors

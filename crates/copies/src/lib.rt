@@ -379,44 +379,26 @@ fn abs_turn(
     base: usize,
     place: usize,
     s: Copying,
-    f: FrameRecord,
+    starts: &Starts,
+    len: usize,
+    end: usize,
 ) -> Entered
-    requires { ⌜ Tabled (now deltas) × CopyReady (now file) (now t) (now work) (now ws) (now ys) base s f × (0xfe ≤ getD (now work) (s .from) 0) × (getD (now work) (s .from) 0 ≡ 0xfe → ⊥) × Buffers (now left) (now right) ⌝ }
-    ensures { λ r. ⌜ Ruled (now (file .entry)) (now (t .entry)) (now (work .entry)) (now (work .exit)) (now (ws .entry)) (now (ys .entry)) (now (ys .entry)) base place s f (entering r f) × Buffers (now (left .exit)) (now (right .exit)) ⌝ }
+    requires { ⌜ Tabled (now deltas) × CopyReady (now file) (now t) (now work) (now ws) (now ys) base s (recordOf (now starts) len end) × (0xfe ≤ getD (now work) (s .from) 0) × (getD (now work) (s .from) 0 ≡ 0xfe → ⊥) × Buffers (now left) (now right) ⌝ }
+    ensures { λ r. ⌜ Ruled (now (file .entry)) (now (t .entry)) (now (work .entry)) (now (work .exit)) (now (ws .entry)) (now (ys .entry)) (now (ys .entry)) base place s (recordOf (now (starts .entry)) len end) (entering r (recordOf (now (starts .entry)) len end)) × Buffers (now (left .exit)) (now (right .exit)) ⌝ }
 {
     let m = end_of(deltas, work, s.from + 1);
     if 0 < s.ytop {
-        return pair_from_y(
-            file,
-            t,
-            work,
-            ws,
-            ys,
-            base,
-            place,
-            s,
-            &f.starts,
-            f.len,
-            f.end,
-            m,
-        );
+        return pair_from_y(file, t, work, ws, ys, base, place, s, starts, len, end, m);
     }
     if s.top == base {
-        return enter_alone(
-            file,
-            t,
-            work,
-            ws,
-            ys,
-            base,
-            place,
-            s,
-            &f.starts,
-            f.len,
-            f.end,
-            m,
-        );
+        return enter_alone(file, t, work, ws, ys, base, place, s, starts, len, end, m);
     }
+    let own = *starts;
+    let f = FrameRecord {
+        starts: own,
+        len,
+        end,
+    };
     pair_from_w(file, t, work, ws, ys, left, right, base, place, s, f, m)
 }
 
@@ -593,13 +575,19 @@ pub fn copied(
             base,
             place,
             a,
-            g,
+            &g.starts,
+            g.len,
+            g.end,
         );
         if !q.going {
             return q.out;
         }
         let b = q.state;
         z = b;
-        g = push(g, q.end);
+        let entries = g.len;
+        let start = g.end;
+        g.starts[entries] = start as u16;
+        g.len = entries + 1;
+        g.end = q.end;
     }
 }

@@ -5,5 +5,4 @@ pub mod Stacked
 pub mod Pending
 pub mod Walk
 pub mod Pass
-pub mod Lifted
 pub mod Replace

@@ -24,6 +24,6 @@ module _ {s out₀ out : List ℕ} {n i : ℕ} (w : Writing s out₀ out n i) wh
 
   pub writing-end : n ≤ i → Writes s n out₀ out
   writing-end h = record {
-    bytes = λ t l m. rw (part-empty s i n h) at (w .result) ∙ ap (sets out₀ 0) (lies-bytes l);
+    bytes = λ t l. rw (part-empty s i n h) at (w .result) ∙ ap (sets out₀ 0) (lies-bytes l);
     same-length = w .same-length;
   }

@@ -36,10 +36,9 @@ pub record Reads (s : List ℕ) (from e k d h room : ℕ) (out out′ : List ℕ
 pub record Writable (s : List ℕ) (n : ℕ) (out : List ℕ) : Type 0 where
   pub term : Term
   pub lies : Lies s 0 n 0 0 term
-  pub shallow : scope term < 1000
   pub array : length s ≡ longestTerm
   pub fits : n ≤ length out
 
 pub record Writes (s : List ℕ) (n : ℕ) (out out′ : List ℕ) : Type 0 where
-  pub bytes : (t : Term) → Lies s 0 n 0 0 t → scope t < 1000 → out′ ≡ sets out 0 (encode t)
+  pub bytes : (t : Term) → Lies s 0 n 0 0 t → out′ ≡ sets out 0 (encode t)
   pub same-length : length out′ ≡ length out

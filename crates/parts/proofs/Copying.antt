@@ -58,9 +58,6 @@ turn-between {r} w h = first-stored w r h refl refl
 
 -- Within one: the store does not touch what is left.
 module _ {s s₀ v : List ℕ} {j k p at : ℕ} (w : Copying s s j k p s₀ at v) (h : j < k) where
-  pub turn-past : k ≤ p → Copying (set s p (getD s j 0)) (set s p (getD s j 0)) (j + 1) k (p + 1) s₀ at v
-  turn-past l = first-stored w (set s p (getD s j 0)) h (length-set s p (getD s j 0)) (part-set-above s (j + 1) k p (getD s j 0) (omega arith) l)
-
   pub turn-left : (p′ : ℕ) → p′ ≡ p + 1 → p ≤ j → Copying (set s p (getD s j 0)) (set s p (getD s j 0)) (j + 1) k p′ s₀ at v
   turn-left p′ q l = rw q (first-stored w (set s p (getD s j 0)) h (length-set s p (getD s j 0)) (part-set-below s (j + 1) k p (getD s j 0) (omega arith)))
 

@@ -3,5 +3,4 @@
 pub mod Cut
 pub mod Stores
 pub mod Copying
-pub mod Comparing
 pub mod Standing

@@ -7,7 +7,6 @@ use native.Mathlib.Omega.{arith}
 use native.Mathlib.Nat.{add-suc, add-zero, suc-add, zero-add}
 use lib.ListN.{length, set, take, drop, length-append}
 use lib.Seq.{sets, sets-eq, length-take-le, set-comm, drop-set-lt, drop-set-add, take-set-le, take-at, drop-at}
-use Rattle.parts.specs.Parts.{part, Copied}
 
 -- ---- Outside the bytes that are stored.
 pub take-sets : (v s : List ℕ) (at n : ℕ) → n ≤ at → take n (sets s at v) ≡ take n s
@@ -39,17 +38,7 @@ module _ (v s : List ℕ) (at : ℕ) (h : at + length v ≤ length s) where
   pub drop-sets-start : drop at (sets s at v) ≡ v ++ drop (at + length v) s
   drop-sets-start = rw (sets-eq v s at h, append-assoc (take at s) v (drop (at + length v) s)) (drop-at (take at s) (v ++ drop (at + length v) s) at (length-take-le at s (omega arith)))
 
--- ---- One store after the other.
-pub sets-sets : (v w s : List ℕ) (at p : ℕ) → p ≡ at + length v → sets (sets s at v) p w ≡ sets s at (v ++ w)
-sets-sets [] w s at p q = rw (q, add-zero at)
-sets-sets (x ∷ v) w s at p q = sets-sets v w (set s at x) (suc at) p (omega arith)
-
 -- The last byte may be stored first.
 pub sets-last : (v s : List ℕ) (at x : ℕ) → sets s at (v ++ (x ∷ [])) ≡ sets (set s (at + length v) x) at v
 sets-last [] s at x = rw (add-zero at)
 sets-last (y ∷ v) s at x = sets-last v (set s at y) (suc at) x ∙ rw (suc-add at (length v), ← add-suc at (length v), set-comm s at (at + suc (length v)) y x (λ q. omega arith))
-
--- ---- By the contracts.
-module _ {r : List ℕ} {from to : ℕ} {s s′ : List ℕ} {at : ℕ} (q : Copied r from to s s′ at) where
-  pub copied-take : (n : ℕ) → n ≤ at → take n s′ ≡ take n s
-  copied-take n h = rw (q .bytes) (take-sets (part r from to) s at n h)

@@ -50,8 +50,8 @@ entry-at-requires c κs = looked-up (c .before .depth-of .ensures .0) (c .if3 .l
 returns-5 : tie.Need-returns-5
 returns-5 c = local-alone (c .before .before .before .before .before .before .before .before .pre) (c .before .before .before .before .before .before .symbol-of .ensures .0) (omega (arith, c .before .before .before .before .before .if1 .left)) (omega (arith, c .before .before .before .before .if2 .left)) (alone-outside (c .before .before .before .depth-of .ensures .0) (c .before .before .if3 .left) (c .before .entry-at .ensures) (c .if5 .taken))
 
-sub-t15 : tie.Need-sub-t15
-sub-t15 c = omega (arith, domain-positive (c .before .before .before .before .depth-of .ensures .0) (c .before .before .before .if3 .left) (c .before .before .entry-at .ensures) (c .before .before .before .before .before .before .before .before .before .pre) (c .before .if5 .left))
+sub-t16 : tie.Need-sub-t16
+sub-t16 c = omega (arith, domain-positive (c .before .before .before .before .depth-of .ensures .0) (c .before .before .before .if3 .left) (c .before .before .entry-at .ensures) (c .before .before .before .before .before .before .before .before .before .pre) (c .before .if5 .left))
 
 put-requires-2 : tie.Need-put-requires-2
 put-requires-2 c κs = puttable (c .before .before .before .before .before .before .before .before .before .before .pre) (c .before .before .before .before .before .before .before .before .symbol-of .ensures .0) (omega (arith, c .before .before .before .before .before .before .before .if1 .left)) (omega (arith, c .before .before .before .before .before .before .if2 .left)) (partner-outside (c .before .before .before .before .before .depth-of .ensures .0) (c .before .before .before .before .if3 .left) (c .before .before .before .entry-at .ensures) (c .before .before .if5 .left))
@@ -76,6 +76,6 @@ local-spec =
     sub-entry-at
     entry-at-requires
     returns-5
-    sub-t15
+    sub-t16
     put-requires-2
     returns-6)

@@ -37,16 +37,16 @@ sub-room : tie.Need-sub-room
 sub-room c = search needs
 
 sub-room-2 : tie.Need-sub-room-2
-sub-room-2 c = omega (arith, put-room (c .before .before .before .before .before .pre) (c .before .depth-of .ensures .0))
+sub-room-2 c = omega (arith, put-room (c .before .before .before .before .pre) (c .depth-of .ensures .0))
 
 add-move-right : tie.Need-add-move-right
-add-move-right c = omega (arith, put-bounds (c .before .before .before .before .before .before .pre))
+add-move-right c = omega (arith, put-bounds (c .before .before .before .before .before .pre))
 
 sub-move-right : tie.Need-sub-move-right
-sub-move-right c = omega (arith, put-bounds (c .before .before .before .before .before .before .pre))
+sub-move-right c = omega (arith, put-bounds (c .before .before .before .before .before .pre))
 
 move-right-requires : tie.Need-move-right-requires
-move-right-requires c κs = let b = put-bounds (c .before .before .before .before .before .before .pre) in (omega arith, omega (arith, c .before .before .before .before .if1 .left), b .4)
+move-right-requires c κs = let b = put-bounds (c .before .before .before .before .before .pre) in (omega arith, omega (arith, c .before .before .before .if1 .left), b .4)
 
 symbol-of-requires : tie.Need-symbol-of-requires
 symbol-of-requires c κs = search needs
@@ -55,13 +55,13 @@ height-of-requires : tie.Need-height-of-requires
 height-of-requires c κs = search needs
 
 write-source-requires : tie.Need-write-source-requires
-write-source-requires c κs = put-sourced (c .before .before .before .before .before .before .before .before .before .before .pre) (c .before .before .before .before .before .before .depth-of .ensures .0) (c .before .symbol-of .ensures .0) (c .height-of .ensures .0) (c .before .before .before .before .before .before .before .before .if1 .left) (c .before .before .before .move-right .ensures)
+write-source-requires c κs = put-sourced (c .before .before .before .before .before .before .before .before .before .pre) (c .before .before .before .before .before .depth-of .ensures .0) (c .before .symbol-of .ensures .0) (c .height-of .ensures .0) (c .before .before .before .before .before .before .before .if1 .left) (c .before .before .before .move-right .ensures)
 
 returns-2 : tie.Need-returns-2
-returns-2 c = put-deep (c .before .before .before .before .before .before .before .before .before .before .before .before .pre) (c .before .before .before .before .before .before .before .before .depth-of .ensures .0) (c .before .before .before .symbol-of .ensures .0) (c .before .before .height-of .ensures .0) (c .before .before .before .before .before .before .before .before .before .before .if1 .left) (c .before .before .before .before .before .move-right .ensures) (c .before .write-source .ensures) (not-true _ (c .if2 .taken))
+returns-2 c = put-deep (c .before .before .before .before .before .before .before .before .before .before .before .pre) (c .before .before .before .before .before .before .before .depth-of .ensures .0) (c .before .before .before .symbol-of .ensures .0) (c .before .before .height-of .ensures .0) (c .before .before .before .before .before .before .before .before .before .if1 .left) (c .before .before .before .before .before .move-right .ensures) (c .before .write-source .ensures) (not-true _ (c .if2 .taken))
 
 returns-3 : tie.Need-returns-3
-returns-3 c = put-done (c .before .before .before .before .before .before .before .before .before .before .before .before .pre) (c .before .before .before .before .before .before .before .before .depth-of .ensures .0) (c .before .before .before .symbol-of .ensures .0) (c .before .before .height-of .ensures .0) (c .before .before .before .before .before .before .before .before .before .before .if1 .left) (c .before .before .before .before .before .move-right .ensures) (c .before .write-source .ensures) (not-false _ (c .if2 .left))
+returns-3 c = put-done (c .before .before .before .before .before .before .before .before .before .before .before .pre) (c .before .before .before .before .before .before .before .depth-of .ensures .0) (c .before .before .before .symbol-of .ensures .0) (c .before .before .height-of .ensures .0) (c .before .before .before .before .before .before .before .before .before .if1 .left) (c .before .before .before .before .before .move-right .ensures) (c .before .write-source .ensures) (not-false _ (c .if2 .left))
 
 pub put-spec : {M : Type 1} → statement M
 put-spec =

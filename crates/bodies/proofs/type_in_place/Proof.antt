@@ -52,8 +52,8 @@ add-end-of-2 c = search needs
 end-of-requires : tie.Need-end-of-requires
 end-of-requires c κs = let b = place-inside (last-in-body (c .before .before .before .before .before .before .before .before .before .before .pre)) in (b .2, b .1, omega (arith, place-inside (last-in-body (c .before .before .before .before .before .before .before .before .before .before .pre)), abstractor-before (c .before .before .before .before .before .before .depth-of .ensures .0) (c .before .before .before .before .before .if2 .taken) (c .before .before .before .find .ensures) (last-in-body (c .before .before .before .before .before .before .before .before .before .before .pre)) (c .before .before .before .before .before .before .before .before .symbol-of .ensures .0) (omega (arith, c .before .before .before .before .before .before .before .if1 .left)) (omega (arith, c .before .before .before .before .before .before .before .before .symbol-of .ensures .0, last-small (c .before .before .before .before .before .before .before .before .before .before .pre .held)))))
 
-add-t22 : tie.Need-add-t22
-add-t22 c = search needs
+add-t23 : tie.Need-add-t23
+add-t23 c = search needs
 
 put-requires : tie.Need-put-requires
 put-requires c κs = puttable (last-in-body (c .before .before .before .before .before .before .before .before .before .before .before .before .pre)) (c .before .before .before .before .before .before .before .before .before .before .symbol-of .ensures .0) (omega (arith, c .before .before .before .before .before .before .before .before .before .if1 .left)) (omega (arith, c .before .before .before .before .before .before .before .before .before .before .symbol-of .ensures .0, last-small (c .before .before .before .before .before .before .before .before .before .before .before .before .pre .held))) (domain-inside (c .before .before .before .before .before .before .before .before .depth-of .ensures .0) (c .before .before .before .before .before .before .before .if2 .taken) (c .before .before .before .before .before .find .ensures) (c .before .before .before .height-of .ensures .0) (c .before .end-of .ensures) (place-inside (last-in-body (c .before .before .before .before .before .before .before .before .before .before .before .before .pre)) .0))
@@ -90,7 +90,7 @@ type-in-place-spec =
     add-end-of
     add-end-of-2
     end-of-requires
-    add-t22
+    add-t23
     put-requires
     returns-2
     sub-entry-at

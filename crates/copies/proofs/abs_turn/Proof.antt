@@ -4,8 +4,6 @@ use Rattle.copies.proofs.Enter.{abs-standing}
 use borrow.Author.Needs.{needs}
 use Rattle.copies.proofs.abs_turn.Statement.{statement}
 use Rattle.copies.proofs.abs_turn.Tie as tie
-use Rattle.copies.proofs.abs_turn.Reads as reads
-use Rattle.copies.proofs.abs_turn.Lts as lts
 use Rattle.copies.proofs.enter_alone.Reads as enter-alone-reads
 use Rattle.copies.proofs.pair_from_w.Reads as pair-from-w-reads
 use Rattle.copies.proofs.pair_from_y.Reads as pair-from-y-reads
@@ -21,19 +19,19 @@ pair-from-y-requires : tie.Need-pair-from-y-requires
 pair-from-y-requires c κs = search needs
 
 returns : tie.Need-returns
-returns c = (c .pair-from-y .ensures, c .before .before .before .before .before .before .before .before .before .before .before .pre .4)
+returns c = search needs
 
 enter-alone-requires : tie.Need-enter-alone-requires
 enter-alone-requires c κs = search needs
 
 returns-2 : tie.Need-returns-2
-returns-2 c = (c .enter-alone .ensures, c .before .before .before .before .before .before .before .before .before .before .before .before .before .pre .4)
+returns-2 c = (c .enter-alone .ensures, c .before .before .before .before .before .before .before .before .before .before .before .pre .4)
 
 pair-from-w-requires : tie.Need-pair-from-w-requires
 pair-from-w-requires c κs = search needs
 
 returns-3 : tie.Need-returns-3
-returns-3 c = c .pair-from-w .ensures
+returns-3 c = search needs
 
 pub abs-turn-spec : {M : Type 1} → statement M
 abs-turn-spec =
