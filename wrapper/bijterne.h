@@ -56,7 +56,7 @@ uint32_t bijterne_write_type(const uint8_t *s, size_t n, uint8_t *out, size_t m,
 void bijterne_apply_step(const uint8_t *s, size_t n, uint8_t kind, uint16_t place, uint8_t *out, size_t m, uint64_t answer[3]);
 
 /* Checks a file: numbers 1 to 13. answer: number, place, comparisons completed, degree of the term (0 for numbers 1 to 6).
- * The deepest term needs 3 MiB of stack, and even a small file some 160 KiB; the other four calls need less than 32 KiB. */
+ * The deepest term needs 3 MiB of stack, and even a small file some 190 KiB; the other four calls need less than 48 KiB. */
 void bijterne_check(const uint8_t *s, size_t n, uint64_t answer[4]);
 
 #ifdef __cplusplus
