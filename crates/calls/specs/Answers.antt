@@ -14,6 +14,8 @@ use Rattle.calculus.specs.Types.{type}
 use Rattle.calculus.specs.Steps.{Step, Outcome, step}
 use Rattle.calculus.specs.Steps as calculus
 use Rattle.code.specs.Limits.{longestTerm}
+use Rattle.code.specs.Refusals.{stepNotPossible, outgrown, bufferTooShort}
+use Rattle.code.specs.Refusals as refusals
 use Rattle.code.specs.Code.{encode}
 use Rattle.examine.specs.Inspect.{Examined, refused, accepted, examined}
 use Rattle.frames.specs.declared.FrameRecord.{FrameRecord}
@@ -39,12 +41,12 @@ pub data Written : Type 0 where
 
 -- The bytes v for a lent buffer, which stays as it is where it is shorter (14). Bytes past v keep their values.
 unfoldable pub handed : List ℕ → List ℕ → Written
-handed out v = cond (leb (length v) (length out)) (answer 0 0 (length v) (sets out 0 v)) (answer 14 0 0 out)
+handed out v = cond (leb (length v) (length out)) (answer refusals.accepted 0 (length v) (sets out 0 v)) (answer bufferTooShort 0 0 out)
 
 -- A result: 11, then 14.
 unfoldable pub written : List ℕ → Term → Written
 unfolding handed
-written out t = cond (bodyFits ε t) (handed out (encode t)) (answer 11 0 0 out)
+written out t = cond (bodyFits ε t) (handed out (encode t)) (answer outgrown 0 0 out)
 
 -- A term's type: term refusals, 'none', 11, 14.
 unfoldable pub typeWritten : List ℕ → Option Term → Written
@@ -61,7 +63,7 @@ typeAnswer s out = typeAnswerOf out (examined s)
 
 -- One step, with an empty frame: term refusals, 10, 11, 14. Its 10 and 11 have place 0.
 unfoldable pub stepWritten : List ℕ → Outcome → Written
-stepWritten out (calculus.refused r) = answer 10 0 0 out
+stepWritten out (calculus.refused r) = answer stepNotPossible 0 0 out
 stepWritten out (calculus.reached u) = written out u
 
 unfoldable pub stepAnswerOf : List ℕ → Step → Examined → Written

@@ -11,6 +11,7 @@ use Rattle.calculus.specs.Terms.{Term, size, Closed}
 use Rattle.calculus.specs.Frames.{ε}
 use Rattle.calculus.specs.Types.{degree, type}
 use Rattle.calculus.specs.Steps.{Step, step, reached}
+use Rattle.code.specs.Refusals as refusals
 use Rattle.code.specs.Code.{Bytes, encode, decode}
 use Rattle.code.specs.Scope.{Fits}
 use Rattle.examine.specs.Inspect.{accepted, examined}
@@ -49,10 +50,10 @@ pub record DegreeOne (s : List ℕ) : Type 0 where
 
 pub record Promises : Type 0 where
   -- what number 0 says
-  pub type-result : (s out : List ℕ) {out′ : List ℕ} {place n : ℕ} → Bytes s → typeAnswer s out ≡ answer 0 place n out′ → TypeResult s out place n out′
-  pub step-result : (s out : List ℕ) (x : Step) {out′ : List ℕ} {place n : ℕ} → Bytes s → stepAnswer s x out ≡ answer 0 place n out′ → StepResult s x out place n out′
+  pub type-result : (s out : List ℕ) {out′ : List ℕ} {place n : ℕ} → Bytes s → typeAnswer s out ≡ answer refusals.accepted place n out′ → TypeResult s out place n out′
+  pub step-result : (s out : List ℕ) (x : Step) {out′ : List ℕ} {place n : ℕ} → Bytes s → stepAnswer s x out ≡ answer refusals.accepted place n out′ → StepResult s x out place n out′
   -- 'none' is for accepted terms of degree 1, and leaves the buffer
   pub type-none : (s out out′ : List ℕ) → (typeAnswer s out ≡ nothing out′) ↔ (DegreeOne s × (out′ ≡ out))
   -- any other answer leaves the buffer, and says that nothing was written
-  pub type-kept : (s out : List ℕ) {out′ : List ℕ} {number place n : ℕ} → typeAnswer s out ≡ answer number place n out′ → (number ≡ 0 → ⊥) → (n ≡ 0) × (out′ ≡ out)
-  pub step-kept : (s out : List ℕ) (x : Step) {out′ : List ℕ} {number place n : ℕ} → stepAnswer s x out ≡ answer number place n out′ → (number ≡ 0 → ⊥) → (n ≡ 0) × (out′ ≡ out)
+  pub type-kept : (s out : List ℕ) {out′ : List ℕ} {number place n : ℕ} → typeAnswer s out ≡ answer number place n out′ → (number ≡ refusals.accepted → ⊥) → (n ≡ 0) × (out′ ≡ out)
+  pub step-kept : (s out : List ℕ) (x : Step) {out′ : List ℕ} {number place n : ℕ} → stepAnswer s x out ≡ answer number place n out′ → (number ≡ refusals.accepted → ⊥) → (n ≡ 0) × (out′ ≡ out)

@@ -6,6 +6,7 @@ use mathlib.Core.Bool.{true}
 use mathlib.Core.List.{List, map}
 use Rattle.calculus.specs.Terms.{Term, Closed}
 use Rattle.calculus.specs.Frames.{Frame, ClosedFrame}
+use Rattle.code.specs.Refusals.{accepted}
 use Rattle.code.specs.Claims.{Stands}
 use Rattle.code.specs.Scope.{Fits}
 use Rattle.fields.specs.Fields.{GroupAt, Groups}
@@ -34,9 +35,9 @@ pub record Comparing (file w : List ℕ) (at : ℕ) (f : FrameRecord) (m e : ℕ
 
 -- What the answer says of the comparison's run from the progress p: 0, and where the groups left then stand; or the number of what stops it.
 pub data CompareSays (file : List ℕ) (at : ℕ) (r : Compared) (p : Progress) : Run → Type 0 where
-  compare-passed : {q : Progress} (gs : List GroupAt) → r .number ≡ 0 → at < r .next → Groups file (r .next) gs → q .left ≡ map (λ g. g .group) gs → q .comparisons ≡ suc (p .comparisons)
+  compare-passed : {q : Progress} (gs : List GroupAt) → r .number ≡ accepted → at < r .next → Groups file (r .next) gs → q .left ≡ map (λ g. g .group) gs → q .comparisons ≡ suc (p .comparisons)
       → CompareSays file at r p (passed q)
-  compare-stopped : {g : Ground} {q : Progress} → r .number ≡ number g → (r .number ≡ 0 → ⊥) → q .comparisons ≡ p .comparisons → CompareSays file at r p (stopped g q)
+  compare-stopped : {g : Ground} {q : Progress} → r .number ≡ number g → (r .number ≡ accepted → ⊥) → q .comparisons ≡ p .comparisons → CompareSays file at r p (stopped g q)
 
 pub record Compares (file w : List ℕ) (at : ℕ) (f : FrameRecord) (m e : ℕ) (r : Compared) : Type 0 where
   pub all : (R : Frame) (K U : Term) (gs : List GroupAt) → Stored w f R → Stands w (suc (f .end)) m K → Stands w (suc m) e U → Groups file at gs

@@ -9,6 +9,7 @@ use Rattle.calculus.specs.Terms.{Term}
 use Rattle.calculus.specs.Frames.{Frame, depth}
 use Rattle.calculus.specs.Steps.{Reason}
 use Rattle.code.specs.Limits.{longestTerm, longestState, mostAbstractors}
+use Rattle.code.specs.Refusals.{accepted, stepNotPossible, outgrown}
 use Rattle.code.specs.Claims.{Stands}
 use Rattle.fields.specs.Fields.{readSteps}
 use Rattle.frames.specs.declared.FrameRecord.{FrameRecord}
@@ -37,9 +38,9 @@ pub record Loads (w b b′ : List ℕ) (len from to : ℕ) (answer : Bool) : Typ
 
 -- What the answer r, and the array b after it, say of a replay after R: the form's length, or 10 or 11.
 pub data ReplayedAs (w : List ℕ) (f : FrameRecord) (b : List ℕ) (R : Frame) (r : Replayed) : Replay → Type 0 where
-  as-form : {u : Term} → r .number ≡ 0 → Held w f b (r .len) R u → ReplayedAs w f b R r (form u)
-  as-refused : {i : ℕ} {x : Reason} → r .number ≡ 10 → ReplayedAs w f b R r (refused-at i x)
-  as-outgrown : {i : ℕ} → r .number ≡ 11 → ReplayedAs w f b R r (outgrown-at i)
+  as-form : {u : Term} → r .number ≡ accepted → Held w f b (r .len) R u → ReplayedAs w f b R r (form u)
+  as-refused : {i : ℕ} {x : Reason} → r .number ≡ stepNotPossible → ReplayedAs w f b R r (refused-at i x)
+  as-outgrown : {i : ℕ} → r .number ≡ outgrown → ReplayedAs w f b R r (outgrown-at i)
 
 -- The steps that stand in the file from a place up to another, replayed on the body of n letters in b; b′ is the array after.
 pub record Replays (file : List ℕ) (from to : ℕ) (w : List ℕ) (f : FrameRecord) (b b′ : List ℕ) (n : ℕ) (r : Replayed) : Type 0 where

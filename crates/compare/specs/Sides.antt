@@ -4,6 +4,7 @@ use Prim.Native.Nat.{ℕ, suc}
 use mathlib.Core.Path.{_≡_}
 use lib.ListN.{length}
 use Rattle.code.specs.Limits.{longestTerm}
+use Rattle.code.specs.Refusals.{accepted}
 use mathlib.Core.Bool.{true}
 use mathlib.Core.List.{List}
 use Rattle.calculus.specs.Terms.{Term}
@@ -31,8 +32,8 @@ pub record TwoSides (file : List ℕ) (g : GroupSpan) (w : List ℕ) (f : FrameR
 
 -- What the number r says of a run from the progress p, after which the groups gs are left.
 pub data SidesSay (r : ℕ) (gs : List Group) (p : Progress) : Run → Type 0 where
-  sides-passed : {q : Progress} → r ≡ 0 → q .left ≡ gs → q .comparisons ≡ suc (p .comparisons) → SidesSay r gs p (passed q)
-  sides-stopped : {g : Ground} {q : Progress} → r ≡ number g → (r ≡ 0 → ⊥) → q .comparisons ≡ p .comparisons → SidesSay r gs p (stopped g q)
+  sides-passed : {q : Progress} → r ≡ accepted → q .left ≡ gs → q .comparisons ≡ suc (p .comparisons) → SidesSay r gs p (passed q)
+  sides-stopped : {g : Ground} {q : Progress} → r ≡ number g → (r ≡ accepted → ⊥) → q .comparisons ≡ p .comparisons → SidesSay r gs p (stopped g q)
 
 -- For every two bodies that the arrays hold.
 pub record Sides (file : List ℕ) (g : GroupSpan) (w : List ℕ) (f : FrameRecord) (a : List ℕ) (n : ℕ) (b : List ℕ) (k r : ℕ) : Type 0 where

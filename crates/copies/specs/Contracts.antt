@@ -8,6 +8,7 @@ use lib.ListN.{length, getD}
 use Rattle.calculus.specs.Terms.{Term}
 use Rattle.calculus.specs.Frames.{Frame}
 use Rattle.code.specs.Limits.{longestState}
+use Rattle.code.specs.Refusals.{accepted}
 use Rattle.frames.specs.Stored.{Agree, EndAt, pushed}
 use Rattle.frames.specs.declared.FrameRecord.{FrameRecord}
 use Rattle.verdict.specs.Verdict.{number, Progress, Run, turned}
@@ -31,7 +32,7 @@ abbrev pub keptStop : ℕ → ℕ → Copying → FrameKept
 keptStop number place s = record { going = false; out = record { number = number; place = place; comparisons = s .comparisons; next = s .next }; state = s }
 
 abbrev pub keptGo : Copying → FrameKept
-keptGo s = record { going = true; out = record { number = 0; place = 0; comparisons = s .comparisons; next = s .next }; state = s }
+keptGo s = record { going = true; out = record { number = accepted; place = 0; comparisons = s .comparisons; next = s .next }; state = s }
 
 -- With the frame that it leaves as it is.
 abbrev pub withFrame : FrameKept → FrameRecord → TurnResult
@@ -45,7 +46,7 @@ abbrev pub stopping : ℕ → ℕ → Copying → FrameRecord → TurnResult
 stopping number place s f = record { going = false; out = record { number = number; place = place; comparisons = s .comparisons; next = s .next }; state = s; frame = f }
 
 abbrev pub goingOn : Copying → FrameRecord → TurnResult
-goingOn s f = record { going = true; out = record { number = 0; place = 0; comparisons = s .comparisons; next = s .next }; state = s; frame = f }
+goingOn s f = record { going = true; out = record { number = accepted; place = 0; comparisons = s .comparisons; next = s .next }; state = s; frame = f }
 
 -- A state that has passed the test of the limits.
 pub record CopyReady (file t w ws ys : List ℕ) (base : ℕ) (s : Copying) (f : FrameRecord) : Type 0 where

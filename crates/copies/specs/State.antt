@@ -7,7 +7,7 @@ use lib.ListN.{length}
 use Rattle.calculus.specs.Terms.{Term, size, lift, Closed}
 use Rattle.calculus.specs.Frames.{single, pair, Frame, ε, _▹_, depth}
 use Rattle.code.specs.Limits.{longestFile, longestTerm, longestState, mostAbstractors}
-use Rattle.code.specs.Refusals.{never}
+use Rattle.code.specs.Refusals.{accepted, never}
 use Rattle.code.specs.Claims.{Stands}
 use Rattle.code.specs.Scope.{scope}
 use Rattle.fields.specs.Fields.{GroupAt, Groups}
@@ -37,8 +37,8 @@ pub record Reached (file : List ℕ) (next count : ℕ) (p : Progress) : Type 0 
 
 -- What an answer says of a run.
 pub data Says (file : List ℕ) (r : Walked) : Run → Type 0 where
-  says-passed : {q : Progress} → r .number ≡ 0 → Reached file (r .next) (r .comparisons) q → Says file r (passed q)
-  says-stopped : {g : Ground} {q : Progress} → r .number ≡ number g → (r .number ≡ 0 → ⊥) → r .place ≡ placeOf g → r .comparisons ≡ q .comparisons → Says file r (stopped g q)
+  says-passed : {q : Progress} → r .number ≡ accepted → Reached file (r .next) (r .comparisons) q → Says file r (passed q)
+  says-stopped : {g : Ground} {q : Progress} → r .number ≡ number g → (r .number ≡ accepted → ⊥) → r .place ≡ placeOf g → r .comparisons ≡ q .comparisons → Says file r (stopped g q)
   says-never : {i : ℕ} {q : Progress} → r .number ≡ never → Says file r (stopped (not-reached i) q)
 
 -- Copied text without a count of states.
@@ -71,8 +71,8 @@ pub record CopyAt (file t w ws ys : List ℕ) (base : ℕ) (s : Copying) (f : Fr
   pub short : size B ≤ longestTerm
   pub known : Known (f .len) B (s .scope)
   pub known-bound : s .scope ≤ longestTerm
-  pub tops : s .top ≤ 4096
-  pub ytops : s .ytop ≤ 4096
+  pub tops : s .top ≤ longestTerm
+  pub ytops : s .ytop ≤ longestTerm
   pub wlong : length ws ≡ queueLength
   pub ylong : length ys ≡ queueLength
   pub reached : Reached file (s .next) (s .comparisons) p

@@ -82,7 +82,7 @@ pub fn wide(x: u8) -> usize
 
 // The index b, seen lifted by n above c.
 fn seen_index(b: u8, n: usize, c: usize) -> usize
-    requires { ⌜ n ≤ 253 ⌝ }
+    requires { ⌜ n ≤ mostAbstractors ⌝ }
     ensures { λ r. ⌜ r ≡ liftIndex n c b ⌝ }
 {
     let k = wide(b);
