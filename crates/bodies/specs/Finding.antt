@@ -9,7 +9,7 @@ use Rattle.calculus.specs.Terms.{Term, var}
 use Rattle.calculus.specs.Frames.{Entry, single, pair, Frame, entryAt}
 use Rattle.code.specs.Limits.{longestTerm, mostAbstractors}
 use Rattle.code.specs.Scope.{scope}
-use Rattle.letters.specs.Letters.{letter, applicator, abstractor, symbolOf, depthOf, heightOf, Lies}
+use Rattle.letters.specs.Letters.{depths, letter, applicator, abstractor, symbolOf, depthOf, heightOf, Lies}
 use Rattle.bodies.specs.Ways.{Way, frameAt, depthAt}
 use Rattle.bodies.specs.declared.Binder.{Binder}
 
@@ -22,7 +22,7 @@ pub record BinderAt (s : List ℕ) (p d h rest at : ℕ) : Type 0 where
   pub deep : (j : ℕ) → rest ≤ j → j ≤ p → d < depthOf (getD s j 0)
   pub high : (j : ℕ) → rest ≤ j → j ≤ p → h ≤ heightOf (getD s j 0)
   pub rest-height : heightOf (getD s rest 0) ≡ h
-  pub shallow : d < 1024
+  pub shallow : d < depths
 
 pub record Findable (s : List ℕ) (p d : ℕ) : Type 0 where
   pub array : length s ≡ longestTerm
@@ -48,11 +48,11 @@ pub record Matable (s : List ℕ) (q : ℕ) : Type 0 where
   pub inside : q < longestTerm
   pub d : ℕ
   pub h : ℕ
-  pub shallow : d < 1024
+  pub shallow : d < depths
   pub letter-there : getD s q 0 ≡ letter abstractor d h
 
 pub record Mated (s : List ℕ) (q r : ℕ) : Type 0 where
-  pub all : (d h y : ℕ) → d < 1024 → getD s q 0 ≡ letter abstractor d h → MateIs s q d h y → r ≡ y
+  pub all : (d h y : ℕ) → d < depths → getD s q 0 ≡ letter abstractor d h → MateIs s q d h y → r ≡ y
 
 -- THE FINDER. The U of an abstractor of depth d at q lies there, and ends before place p.
 pub record DomainLies (s : List ℕ) (p d q : ℕ) (U : Term) : Type 0 where

@@ -11,7 +11,7 @@ use Rattle.calculus.specs.Terms.{Term, liftIndex}
 use Rattle.code.specs.Limits.{longestTerm, mostAbstractors}
 use Rattle.code.specs.Scope.{scope}
 use Rattle.parts.specs.Parts.{part}
-use Rattle.letters.specs.Letters.{letter, applicator, symbolOf, depthOf, heightOf, Lies}
+use Rattle.letters.specs.Letters.{symbols, depths, heights, letter, applicator, symbolOf, depthOf, heightOf, Lies}
 
 -- s′ is s with the letters from a place up to another, each changed by g, stored from `at` on, and nothing else changed.
 pub record Mapped (g : ℕ → ℕ) (s s′ : List ℕ) (from to at : ℕ) : Type 0 where
@@ -34,11 +34,11 @@ unfoldable pub liftedLetter : ℕ → ℕ → ℕ → ℕ → ℕ → ℕ
 liftedLetter c k h low x = letter (liftedSymbol k (depthOf x - c) (symbolOf x)) (depthOf x + k) (heightOf x + h - low)
 
 pub record LiftableLetter (c k h low x : ℕ) : Type 0 where
-  pub index : symbolOf x < applicator → symbolOf x + k < 1024
+  pub index : symbolOf x < applicator → symbolOf x + k < symbols
   pub least : c ≤ depthOf x
-  pub deep : depthOf x + k < 1024
+  pub deep : depthOf x + k < depths
   pub low-enough : low ≤ heightOf x
-  pub high : heightOf x + h < low + 4096
+  pub high : heightOf x + h < low + heights
 
 -- A term that lies in s, where its first letter has depth c; lifted by k and with height h it has room from `at` on, past its end.
 pub record Liftable (s : List ℕ) (from e c k h at : ℕ) : Type 0 where

@@ -12,14 +12,14 @@ use Rattle.code.specs.Code.{encode}
 use Rattle.code.specs.Scope.{scope}
 use Rattle.code.specs.Claims.{Stands}
 use Rattle.indices.specs.Passes.{ShortTerm}
-use Rattle.letters.specs.Letters.{letters, Lies}
+use Rattle.letters.specs.Letters.{depths, letters, Lies}
 
 -- A term stands in s from a place up to e. Lifted by k, its first letter at depth d and height h, it has room in `out` from `at` on; at
 -- most `room` of its abstractors may be in scope.
 pub record Readable (s : List ℕ) (from e k d h room : ℕ) (out : List ℕ) (at : ℕ) : Type 0 where
   pub standing : ShortTerm s from e
   pub index : k ≤ mostAbstractors
-  pub deep : d + room < 1024
+  pub deep : d + room < depths
   pub high : h + e ≤ from + longestTerm
   pub array : length out ≡ longestTerm
   pub fits : at + (e - from) ≤ longestTerm

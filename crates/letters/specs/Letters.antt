@@ -8,7 +8,17 @@ use lib.ListN.{drop}
 use Rattle.calculus.specs.Terms.{Term, tau, var, app, abs, size}
 use Rattle.code.specs.Code.{Coded}
 
--- Ten bits for the symbol (0 is tau, then the indices), ten for the depth, twelve for the height.
+-- So many symbols, depths and heights there are: ten bits, ten, and twelve.
+abbrev pub symbols : ℕ
+symbols = 1024
+
+abbrev pub depths : ℕ
+depths = 1024
+
+abbrev pub heights : ℕ
+heights = 4096
+
+-- The symbol 0 is tau; then come the indices, and last these two.
 abbrev pub applicator : ℕ
 applicator = 1022
 
@@ -16,16 +26,16 @@ abbrev pub abstractor : ℕ
 abstractor = 1023
 
 unfoldable pub letter : ℕ → ℕ → ℕ → ℕ
-letter x d h = x + (d + h * 1024) * 1024
+letter x d h = x + (d + h * depths) * symbols
 
 abbrev pub symbolOf : ℕ → ℕ
-symbolOf x = x % 1024
+symbolOf x = x % symbols
 
 abbrev pub depthOf : ℕ → ℕ
-depthOf x = x / 1024 % 1024
+depthOf x = x / symbols % depths
 
 abbrev pub heightOf : ℕ → ℕ
-heightOf x = x / 1024 / 1024
+heightOf x = x / symbols / depths
 
 -- The letters of a term whose first symbol has depth d and height h.
 unfoldable pub letters : ℕ → ℕ → Term → List ℕ
