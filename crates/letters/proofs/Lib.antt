@@ -2,5 +2,6 @@
 -- Assumes nothing.
 pub mod Letters
 pub mod Reading
+pub mod Flat
 pub mod Writing
 pub mod Counting

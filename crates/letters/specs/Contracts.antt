@@ -4,7 +4,7 @@ use Prim.Native.Nat.{ℕ, _+_, _-_, _≤_, _<_}
 use mathlib.Core.Path.{_≡_}
 use mathlib.Core.Bool.{Bool, true, false}
 use mathlib.Core.List.{List}
-use lib.ListN.{length}
+use lib.ListN.{length, getD}
 use lib.Seq.{sets}
 use Rattle.calculus.specs.Terms.{Term, lift}
 use Rattle.code.specs.Limits.{longestTerm, mostAbstractors}
@@ -31,6 +31,10 @@ pub data ReadAs (k d h room : ℕ) (out out′ : List ℕ) (at : ℕ) (t : Term)
 pub record Reads (s : List ℕ) (from e k d h room : ℕ) (out out′ : List ℕ) (at : ℕ) (answer : Bool) : Type 0 where
   pub all : (t : Term) → Stands s from e t → ReadAs k d h room out out′ at t answer
   pub same-length : length out′ ≡ length out
+
+-- No byte from a place up to e is larger than b.
+pub record UpTo (s : List ℕ) (from e b : ℕ) : Type 0 where
+  pub bound : (i : ℕ) → from ≤ i → i < e → getD s i 0 ≤ b
 
 -- Some term lies at the start of s, in n letters, and there is room for its bytes.
 pub record Writable (s : List ℕ) (n : ℕ) (out : List ℕ) : Type 0 where

@@ -2,14 +2,15 @@
 // crate reads and writes a body's bytes.
 ghost use mathlib.Core.Path.{_≡_};
 ghost use mathlib.Core.Logic.{_↔_};
-ghost use Prim.Native.Nat.{_%_, _<_, _≤_};
+ghost use Prim.Native.Nat.{_%_, _<_, _≤_, max};
+ghost use mathlib.Core.Bool.{true};
 ghost use lib.ListN.{length};
 ghost use Rattle.calculus.specs.Terms.{liftIndex};
 ghost use Rattle.code.specs.Limits.{longestTerm, mostAbstractors};
 ghost use Rattle.indices.specs.Stack.{Roomy};
 ghost use Rattle.parts.specs.Parts.{Compared};
 ghost use Rattle.letters.specs.Letters.{letter, symbolOf, depthOf, heightOf};
-ghost use Rattle.letters.specs.Contracts.{Readable, Reads, Writable, Writes};
+ghost use Rattle.letters.specs.Contracts.{UpTo, Readable, Reads, Writable, Writes};
 use code::numbers::LONGEST_TERM;
 use indices::advance;
 
@@ -108,6 +109,59 @@ fn read_with(
     true
 }
 
+fn larger(x: u8, y: u8) -> u8
+    ensures { λ r. ⌜ r ≡ max x y ⌝ }
+{
+    if x < y { y } else { x }
+}
+
+// The largest byte from `from` up to `to`. A loop with no way out compares several at once.
+fn largest_byte(s: &[u8], from: usize, to: usize) -> u8
+    requires { ⌜ to ≤ length (now s) ⌝ }
+    ensures { λ r. ⌜ UpTo (now (s .entry)) from to r ⌝ }
+{
+    let mut largest: u8 = 0;
+    let mut i = from;
+    while i < to {
+        largest = larger(largest, s[i]);
+        i += 1;
+    }
+    largest
+}
+
+// As `read_with`, where no byte is an abstractor: all depths are the same, and the parts still to be read need no stack.
+fn read_flat(
+    s: &[u8],
+    from: usize,
+    to: usize,
+    k: usize,
+    d: usize,
+    h: usize,
+    out: &mut Letters,
+    at: usize,
+)
+    requires { ⌜ Readable (now s) from to k d h 0 (now out) at × UpTo (now s) from to 0xfe ⌝ }
+    ensures { λ r. ⌜ Reads (now (s .entry)) from to k d h 0 (now (out .entry)) (now (out .exit)) at true ⌝ }
+{
+    let mut count: usize = 1;
+    let mut i = from;
+    let mut j = at;
+    while i < to {
+        let b = s[i];
+        let x = index_of(b);
+        let height = h + (count - 1);
+        if b < 0xfe {
+            out[j] = letter_of(lifted_index(x, 0, k), d, height);
+            count -= 1;
+        } else {
+            out[j] = letter_of(x + 768, d, height);
+            count += 1;
+        }
+        i += 1;
+        j += 1;
+    }
+}
+
 // The term that stands in s from `from` up to `to`, lifted by k, as letters from `at` on: its first at depth d and height h. Not, if
 // more than `room` of its abstractors are in scope anywhere.
 pub fn read(
@@ -124,6 +178,10 @@ pub fn read(
     requires { ⌜ Readable (now s) from to k d h room (now out) at ⌝ }
     ensures { λ r. ⌜ Reads (now (s .entry)) from to k d h room (now (out .entry)) (now (out .exit)) at r ⌝ }
 {
+    if largest_byte(s, from, to) < 0xff {
+        read_flat(s, from, to, k, d, h, out, at);
+        return true;
+    }
     if to - from < 127 {
         let mut small: [u16; 64] = [0; 64];
         return read_with(s, from, to, k, d, h, room, out, at, &mut small[..]);
