@@ -182,6 +182,15 @@ ending-next {j = j} w g = record {
   low = λ l. absurd (omega arith);
 }
 
+-- Four letters at once: x is at most each of them, and high enough.
+pub ending-four : {s : List ℕ} {i h j x y z v : ℕ} → Ending s j i h j → v ≡ heightOf x → h ≤ v → (x ≤ y) × (x ≤ z) → (y ≤ getD s j 0) × (y ≤ getD s (j + 1) 0)
+    → (z ≤ getD s (j + 2) 0) × (z ≤ getD s (j + 3) 0) → Ending s (j + 4) i h (j + 4)
+ending-four {j = j} w e g a b c =
+    let two : j + 1 + 1 ≡ j + 2 = omega arith in
+    let three : j + 2 + 1 ≡ j + 3 = omega arith in
+    let four : j + 3 + 1 ≡ j + 4 = omega arith in
+    rw four at (ending-next (rw three at (ending-next (rw two at (ending-next (ending-next w (omega arith)) (omega arith))) (omega arith))) (omega arith))
+
 pub ending-is : {s : List ℕ} {n i h e r : ℕ} → Ending s n i h r → Ending s n i h e → r ≡ e
 ending-is {e = e} {r = r} a b = elim (cmp r e) [
   | lo u ↦ elim (cmp e r) [

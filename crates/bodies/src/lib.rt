@@ -81,6 +81,27 @@ fn move_left(s: &mut Letters, from: usize, to: usize, by: usize)
     }
 }
 
+fn least(x: u32, y: u32) -> u32
+    ensures { λ r. ⌜ (r ≤ x) × (r ≤ y) ⌝ }
+{
+    if x < y { x } else { y }
+}
+
+// A place from i on, of n, up to which no letter is less high than h: four letters are tried at once, as the highest bits are the height.
+fn skip_high(s: &Letters, n: usize, i: usize, h: usize) -> usize
+    requires { ⌜ (length (now s) ≡ longestTerm) × (n ≤ longestTerm) × (i ≤ n) ⌝ }
+    ensures { λ r. ⌜ Ending (now (s .entry)) r i h r × (r ≤ n) ⌝ }
+{
+    let mut j = i;
+    while j + 4 <= n {
+        if height_of(least(least(s[j], s[j + 1]), least(s[j + 2], s[j + 3]))) < h {
+            return j;
+        }
+        j += 4;
+    }
+    j
+}
+
 // The first place from i on, of n, whose letter is less high than h.
 fn end_of(s: &Letters, n: usize, i: usize, h: usize) -> usize
     requires { ⌜ (length (now s) ≡ longestTerm) × (n ≤ longestTerm) × (i ≤ n) ⌝ }
@@ -89,7 +110,7 @@ fn end_of(s: &Letters, n: usize, i: usize, h: usize) -> usize
     if h == 0 {
         return n;
     }
-    let mut j = i;
+    let mut j = skip_high(s, n, i, h);
     while j < n {
         if height_of(s[j]) < h {
             return j;

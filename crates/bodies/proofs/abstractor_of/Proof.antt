@@ -21,17 +21,11 @@ mul-height-of c = omega (arith, c .pre .inside)
 element-copy-out-height-of : tie.Need-element-copy-out-height-of Inv-loop μ-loop
 element-copy-out-height-of c = omega (arith, c .pre .inside)
 
-height-of-requires : tie.Need-height-of-requires Inv-loop μ-loop
-height-of-requires c κs = search needs
-
 letter-of-requires : tie.Need-letter-of-requires Inv-loop μ-loop
 letter-of-requires c κs = (omega arith, c .before .before .pre .binder .shallow, c .height-of .ensures .1)
 
 loop-holds : tie.Need-loop-holds Inv-loop μ-loop
 loop-holds c = (scan-start (c .before .height-of .ensures .0), c .letter-of .ensures, c .before .height-of .ensures .1)
-
-sub-q : tie.Need-sub-q Inv-loop μ-loop
-sub-q c = search needs
 
 mul-x : tie.Need-mul-x Inv-loop μ-loop
 mul-x c = omega (arith, c .before .before .before .before .before .pre .inside, c .before .loop .inv .0 .left)
@@ -43,21 +37,12 @@ returns : tie.Need-returns Inv-loop μ-loop
 returns c = let w = c .before .before .before .loop .inv in
     scan-found (w .0) (c .before .before .loop-test .taken) (c .before .before .before .before .before .before .before .pre .binder .shallow) (c .if1 .taken ∙ w .1)
 
-height-of-requires-2 : tie.Need-height-of-requires-2 Inv-loop μ-loop
-height-of-requires-2 c κs = search needs
-
 letter-of-requires-2 : tie.Need-letter-of-requires-2 Inv-loop μ-loop
 letter-of-requires-2 c κs = (omega arith, c .before .before .before .before .before .before .before .before .before .pre .binder .shallow, c .before .height-of2 .ensures .1)
-
-loop-less : tie.Need-loop-less Inv-loop μ-loop
-loop-less c = search needs
 
 loop-again : tie.Need-loop-again Inv-loop μ-loop
 loop-again c = let w = c .before .before .before .before .before .before .loop .inv in let h = c .before .before .height-of2 .ensures in
     (scan-next (w .0) (c .before .before .before .before .before .loop-test .taken) (λ e. c .before .before .before .if1 .left (e ∙ sym (w .1))) (omega arith) (omega (arith, h .0)) (λ x u v. omega (arith, h .0)), c .letter-of2 .ensures, h .1)
-
-loop-less-2 : tie.Need-loop-less-2 Inv-loop μ-loop
-loop-less-2 c = search needs
 
 loop-again-2 : tie.Need-loop-again-2 Inv-loop μ-loop
 loop-again-2 c = let w = c .before .before .before .before .before .loop .inv in
@@ -74,17 +59,17 @@ abstractor-of-spec =
     μ-loop
     mul-height-of
     element-copy-out-height-of
-    height-of-requires
+    (λ c κs. search needs)
     letter-of-requires
     loop-holds
-    sub-q
+    (λ c. search needs)
     mul-x
     element-copy-out-x
     returns
-    height-of-requires-2
+    (λ c κs. search needs)
     letter-of-requires-2
-    loop-less
+    (λ c. search needs)
     loop-again
-    loop-less-2
+    (λ c. search needs)
     loop-again-2
     returns-2)

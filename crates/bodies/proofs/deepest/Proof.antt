@@ -23,15 +23,6 @@ mul-deeper c = omega (arith, lies-end (c .before .before .pre .lies), c .before 
 element-copy-out-deeper : tie.Need-element-copy-out-deeper Inv-loop μ-loop
 element-copy-out-deeper c = omega (arith, lies-end (c .before .before .pre .lies), c .before .before .pre .array)
 
-deeper-requires : tie.Need-deeper-requires Inv-loop μ-loop
-deeper-requires c κs = search needs
-
-add-i : tie.Need-add-i Inv-loop μ-loop
-add-i c = search needs
-
-loop-less : tie.Need-loop-less Inv-loop μ-loop
-loop-less c = search needs
-
 loop-again : tie.Need-loop-again Inv-loop μ-loop
 loop-again c = let w = c .before .before .before .loop .inv in (deepening-next (w .0) (w .1) (c .deeper .ensures), omega arith, omega arith)
 
@@ -47,8 +38,8 @@ deepest-spec =
     loop-holds
     mul-deeper
     element-copy-out-deeper
-    deeper-requires
-    add-i
-    loop-less
+    (λ c κs. search needs)
+    (λ c. search needs)
+    (λ c. search needs)
     loop-again
     returns)

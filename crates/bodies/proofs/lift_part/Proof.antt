@@ -27,12 +27,6 @@ mul-height-of c = omega (arith, lies-end (c .pre .lies), c .pre .array)
 element-copy-out-height-of : tie.Need-element-copy-out-height-of Inv-loop μ-loop
 element-copy-out-height-of c = omega (arith, lies-end (c .pre .lies), c .pre .array)
 
-height-of-requires : tie.Need-height-of-requires Inv-loop μ-loop
-height-of-requires c κs = search needs
-
-narrow-requires : tie.Need-narrow-requires Inv-loop μ-loop
-narrow-requires c κs = search needs
-
 loop-holds : tie.Need-loop-holds Inv-loop μ-loop
 loop-holds c = (mapping-start (lies-end (c .before .before .before .pre .lies) .1), omega arith, omega arith)
 
@@ -53,14 +47,8 @@ mul-s c = omega (arith, c .before .before .before .loop .inv, c .before .before 
 element-write-s : tie.Need-element-write-s Inv-loop μ-loop
 element-write-s c = omega (arith, c .before .before .before .loop .inv, c .before .before .before .before .before .before .before .pre .fits)
 
-add-i : tie.Need-add-i Inv-loop μ-loop
-add-i c = search needs
-
 add-j : tie.Need-add-j Inv-loop μ-loop
 add-j c = omega (arith, c .before .before .before .loop .inv, c .before .before .before .before .before .before .before .pre .fits)
-
-loop-less : tie.Need-loop-less Inv-loop μ-loop
-loop-less c = search needs
 
 loop-again : tie.Need-loop-again Inv-loop μ-loop
 loop-again c = let w = c .before .before .before .loop .inv in
@@ -77,16 +65,16 @@ lift-part-spec =
     μ-loop
     mul-height-of
     element-copy-out-height-of
-    height-of-requires
-    narrow-requires
+    (λ c κs. search needs)
+    (λ c κs. search needs)
     loop-holds
     mul-lifted-letter
     element-copy-out-lifted-letter
     lifted-letter-requires
     mul-s
     element-write-s
-    add-i
+    (λ c. search needs)
     add-j
-    loop-less
+    (λ c. search needs)
     loop-again
     returns)

@@ -17,17 +17,11 @@ mul-v c = omega (arith, place-inside (c .pre))
 element-copy-out-v : tie.Need-element-copy-out-v
 element-copy-out-v c = omega (arith, place-inside (c .pre))
 
-symbol-of-requires : tie.Need-symbol-of-requires
-symbol-of-requires c κs = search needs
-
 returns : tie.Need-returns
 returns c = no-variable (c .before .before .before .pre) (c .before .symbol-of .ensures .0) (λ a b. omega (arith, c .if1 .taken))
 
 returns-2 : tie.Need-returns-2
 returns-2 c = no-variable (c .before .before .before .before .pre) (c .before .before .symbol-of .ensures .0) (λ a b. omega (arith, c .if2 .taken))
-
-depth-of-requires : tie.Need-depth-of-requires
-depth-of-requires c κs = search needs
 
 find-requires : tie.Need-find-requires
 find-requires c κs = some-bound (c .before .before .depth-of .ensures .0) (c .before .if3 .taken) (c .before .before .before .before .before .before .before .pre) (c .before .before .before .before .before .symbol-of .ensures .0) (omega (arith, c .before .before .before .before .if1 .left)) (omega (arith, c .before .before .before .if2 .left))
@@ -40,9 +34,6 @@ put-requires c κs = puttable (c .before .before .before .before .before .before
 
 returns-4 : tie.Need-returns-4
 returns-4 c = local-put (c .before .before .before .before .before .before .before .before .before .before .before .pre) (c .before .before .before .before .before .before .before .before .before .symbol-of .ensures .0) (omega (arith, c .before .before .before .before .before .before .before .before .if1 .left)) (omega (arith, c .before .before .before .before .before .before .before .if2 .left)) (partner-inside (c .before .before .before .before .before .before .depth-of .ensures .0) (c .before .before .before .before .before .if3 .taken) (c .before .before .before .find .ensures) (c .before .before .if4 .left)) (c .put .ensures)
-
-sub-entry-at : tie.Need-sub-entry-at
-sub-entry-at c = search needs
 
 entry-at-requires : tie.Need-entry-at-requires
 entry-at-requires c κs = looked-up (c .before .depth-of .ensures .0) (c .if3 .left) (c .before .before .before .before .before .before .pre) (c .before .before .before .before .symbol-of .ensures .0) (omega (arith, c .before .before .if2 .left))
@@ -65,15 +56,15 @@ local-spec =
     (tie.spec
     mul-v
     element-copy-out-v
-    symbol-of-requires
+    (λ c κs. search needs)
     returns
     returns-2
-    depth-of-requires
+    (λ c κs. search needs)
     find-requires
     returns-3
     put-requires
     returns-4
-    sub-entry-at
+    (λ c. search needs)
     entry-at-requires
     returns-5
     sub-t16

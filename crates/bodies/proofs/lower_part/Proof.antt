@@ -22,26 +22,8 @@ abbrev μ-loop : tie.MeasureT-loop
 loop-holds : tie.Need-loop-holds Inv-loop μ-loop
 loop-holds c = (mapping-start (omega (arith, c .pre .inside, c .pre .array)), omega arith)
 
-mul-lowered-letter : tie.Need-mul-lowered-letter Inv-loop μ-loop
-mul-lowered-letter c = search needs
-
-element-copy-out-lowered-letter : tie.Need-element-copy-out-lowered-letter Inv-loop μ-loop
-element-copy-out-lowered-letter c = search needs
-
 lowered-letter-requires : tie.Need-lowered-letter-requires Inv-loop μ-loop
 lowered-letter-requires c κs = let w = c .before .before .loop .inv in let l = c .before .loop-test .taken in omega (arith, ap depthOf (next-letter (w .0) l), c .before .before .before .pre .deep _ (w .1) l)
-
-mul-s : tie.Need-mul-s Inv-loop μ-loop
-mul-s c = search needs
-
-element-write-s : tie.Need-element-write-s Inv-loop μ-loop
-element-write-s c = search needs
-
-add-i : tie.Need-add-i Inv-loop μ-loop
-add-i c = search needs
-
-loop-less : tie.Need-loop-less Inv-loop μ-loop
-loop-less c = search needs
 
 loop-again : tie.Need-loop-again Inv-loop μ-loop
 loop-again c = let w = c .before .before .before .loop .inv in (mapping-next (w .0) (c .before .before .loop-test .taken) (inl (omega arith)) (c .lowered-letter .ensures), omega arith)
@@ -56,12 +38,12 @@ lower-part-spec =
     Inv-loop
     μ-loop
     loop-holds
-    mul-lowered-letter
-    element-copy-out-lowered-letter
+    (λ c. search needs)
+    (λ c. search needs)
     lowered-letter-requires
-    mul-s
-    element-write-s
-    add-i
-    loop-less
+    (λ c. search needs)
+    (λ c. search needs)
+    (λ c. search needs)
+    (λ c. search needs)
     loop-again
     returns)

@@ -19,14 +19,8 @@ mul-y c = omega (arith, c .pre .inside)
 element-copy-out-y : tie.Need-element-copy-out-y Inv-loop μ-loop
 element-copy-out-y c = omega (arith, c .pre .inside)
 
-height-of-requires : tie.Need-height-of-requires Inv-loop μ-loop
-height-of-requires c κs = search needs
-
 loop-holds : tie.Need-loop-holds Inv-loop μ-loop
 loop-holds c = record { left = omega arith; here = c .height-of .ensures .0; high = λ j x y. absurd (omega arith) }
-
-sub-i : tie.Need-sub-i Inv-loop μ-loop
-sub-i c = search needs
 
 mul-x : tie.Need-mul-x Inv-loop μ-loop
 mul-x c = omega (arith, c .before .before .before .before .pre .inside, c .before .loop .inv .left)
@@ -34,24 +28,15 @@ mul-x c = omega (arith, c .before .before .before .before .pre .inside, c .befor
 element-copy-out-x : tie.Need-element-copy-out-x Inv-loop μ-loop
 element-copy-out-x c = omega (arith, c .before .before .before .before .pre .inside, c .before .loop .inv .left)
 
-height-of-requires-2 : tie.Need-height-of-requires-2 Inv-loop μ-loop
-height-of-requires-2 c κs = search needs
-
 sub-if2 : tie.Need-sub-if2 Inv-loop μ-loop
 unfolding letter
 sub-if2 c = omega (arith, c .before .before .before .before .before .before .before .pre .letter-there)
-
-add-result : tie.Need-add-result Inv-loop μ-loop
-add-result c = search needs
 
 returns : tie.Need-returns Inv-loop μ-loop
 returns c = back-found (c .before .before .before .before .before .loop .inv) (c .before .before .before .before .loop-test .taken) (omega (arith, c .before .before .height-of2 .ensures .0)) (c .if2 .taken)
 
 returns-2 : tie.Need-returns-2 Inv-loop μ-loop
 returns-2 c = back-other (c .before .before .before .before .before .loop .inv) (c .before .before .before .before .loop-test .taken) (omega (arith, c .before .before .height-of2 .ensures .0)) (c .if2 .left)
-
-loop-less : tie.Need-loop-less Inv-loop μ-loop
-loop-less c = search needs
 
 loop-again : tie.Need-loop-again Inv-loop μ-loop
 loop-again c = back-next (c .before .before .before .before .loop .inv) (c .before .before .before .loop-test .taken) (omega (arith, c .before .height-of2 .ensures .0))
@@ -67,16 +52,16 @@ partner-of-spec =
     μ-loop
     mul-y
     element-copy-out-y
-    height-of-requires
+    (λ c κs. search needs)
     loop-holds
-    sub-i
+    (λ c. search needs)
     mul-x
     element-copy-out-x
-    height-of-requires-2
+    (λ c κs. search needs)
     sub-if2
-    add-result
+    (λ c. search needs)
     returns
     returns-2
-    loop-less
+    (λ c. search needs)
     loop-again
     returns-3)

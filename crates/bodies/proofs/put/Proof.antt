@@ -30,12 +30,6 @@ mul-v c = omega (arith, put-bounds (c .before .before .pre))
 element-copy-out-v : tie.Need-element-copy-out-v
 element-copy-out-v c = omega (arith, put-bounds (c .before .before .pre))
 
-depth-of-requires : tie.Need-depth-of-requires
-depth-of-requires c κs = search needs
-
-sub-room : tie.Need-sub-room
-sub-room c = search needs
-
 sub-room-2 : tie.Need-sub-room-2
 sub-room-2 c = omega (arith, put-room (c .before .before .before .before .pre) (c .depth-of .ensures .0))
 
@@ -47,12 +41,6 @@ sub-move-right c = omega (arith, put-bounds (c .before .before .before .before .
 
 move-right-requires : tie.Need-move-right-requires
 move-right-requires c κs = let b = put-bounds (c .before .before .before .before .before .pre) in (omega arith, omega (arith, c .before .before .before .if1 .left), b .4)
-
-symbol-of-requires : tie.Need-symbol-of-requires
-symbol-of-requires c κs = search needs
-
-height-of-requires : tie.Need-height-of-requires
-height-of-requires c κs = search needs
 
 write-source-requires : tie.Need-write-source-requires
 write-source-requires c κs = put-sourced (c .before .before .before .before .before .before .before .before .before .pre) (c .before .before .before .before .before .depth-of .ensures .0) (c .before .symbol-of .ensures .0) (c .height-of .ensures .0) (c .before .before .before .before .before .before .before .if1 .left) (c .before .before .before .move-right .ensures)
@@ -73,14 +61,14 @@ put-spec =
     returns
     mul-v
     element-copy-out-v
-    depth-of-requires
-    sub-room
+    (λ c κs. search needs)
+    (λ c. search needs)
     sub-room-2
     add-move-right
     sub-move-right
     move-right-requires
-    symbol-of-requires
-    height-of-requires
+    (λ c κs. search needs)
+    (λ c κs. search needs)
     write-source-requires
     returns-2
     returns-3)

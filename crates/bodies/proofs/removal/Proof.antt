@@ -21,20 +21,8 @@ mul-v c = omega (arith, bounds (c .pre))
 element-copy-out-v : tie.Need-element-copy-out-v
 element-copy-out-v c = omega (arith, bounds (c .pre))
 
-symbol-of-requires : tie.Need-symbol-of-requires
-symbol-of-requires c κs = search needs
-
 returns : tie.Need-returns
 returns c = wrong (c .before .before .before .pre) (c .before .symbol-of .ensures .0) (c .if1 .taken)
-
-height-of-requires : tie.Need-height-of-requires
-height-of-requires c κs = search needs
-
-add-end-of : tie.Need-add-end-of
-add-end-of c = search needs
-
-add-end-of-2 : tie.Need-add-end-of-2
-add-end-of-2 c = search needs
 
 end-of-requires : tie.Need-end-of-requires
 end-of-requires c κs = bounds (c .before .before .before .before .before .pre)
@@ -45,29 +33,17 @@ mul-symbol-of c = omega (arith, bounds (c .before .before .before .before .befor
 element-copy-out-symbol-of : tie.Need-element-copy-out-symbol-of
 element-copy-out-symbol-of c = omega (arith, bounds (c .before .before .before .before .before .before .pre), middle-inside (c .before .before .before .before .before .before .pre) (sym (c .before .before .before .before .symbol-of .ensures .0) ∙ c .before .before .before .if1 .left) (c .before .before .height-of .ensures .0) (c .end-of .ensures))
 
-symbol-of-requires-2 : tie.Need-symbol-of-requires-2
-symbol-of-requires-2 c κs = search needs
-
 returns-2 : tie.Need-returns-2
 returns-2 c = not-paired (c .before .before .before .before .before .before .before .before .before .pre) (sym (c .before .before .before .before .before .before .before .symbol-of .ensures .0) ∙ c .before .before .before .before .before .before .if1 .left) (c .before .before .before .before .before .height-of .ensures .0) (c .before .before .before .end-of .ensures) (c .before .symbol-of2 .ensures .0) (c .if2 .taken)
 
 add-end-of-3 : tie.Need-add-end-of-3
 add-end-of-3 c = omega (arith, bounds (c .before .before .before .before .before .before .before .before .before .before .pre), middle-inside (c .before .before .before .before .before .before .before .before .before .before .pre) (sym (c .before .before .before .before .before .before .before .before .symbol-of .ensures .0) ∙ c .before .before .before .before .before .before .before .if1 .left) (c .before .before .before .before .before .before .height-of .ensures .0) (c .before .before .before .before .end-of .ensures))
 
-add-end-of-4 : tie.Need-add-end-of-4
-add-end-of-4 c = search needs
-
 end-of-requires-2 : tie.Need-end-of-requires-2
 end-of-requires-2 c κs = let b = bounds (c .before .before .before .before .before .before .before .before .before .before .pre) in (b .0, b .1, omega (arith, middle-inside (c .before .before .before .before .before .before .before .before .before .before .pre) (sym (c .before .before .before .before .before .before .before .before .symbol-of .ensures .0) ∙ c .before .before .before .before .before .before .before .if1 .left) (c .before .before .before .before .before .before .height-of .ensures .0) (c .before .before .before .before .end-of .ensures)))
 
 end-of-requires-3 : tie.Need-end-of-requires-3
 end-of-requires-3 c κs = let b = bounds (c .before .before .before .before .before .before .before .before .before .before .before .before .pre) in (b .0, b .1, c .before .end-of2 .ensures .inside)
-
-depth-of-requires : tie.Need-depth-of-requires
-depth-of-requires c κs = search needs
-
-narrow-requires : tie.Need-narrow-requires
-narrow-requires c κs = search needs
 
 uses-requires : tie.Need-uses-requires
 uses-requires c κs = in-scope (c .before .before .before .before .before .before .before .before .before .before .before .before .before .before .before .before .pre) (sym (c .before .before .before .before .before .before .before .before .before .before .before .before .before .before .symbol-of .ensures .0) ∙ c .before .before .before .before .before .before .before .before .before .before .before .before .before .if1 .left) (c .before .before .before .before .before .before .before .before .before .before .before .before .height-of .ensures .0) (c .before .before .before .before .before .before .before .before .before .before .end-of .ensures) (sym (c .before .before .before .before .before .before .before .before .symbol-of2 .ensures .0) ∙ c .before .before .before .before .before .before .before .if2 .left) (c .before .before .before .before .before .end-of2 .ensures) (c .before .before .before .end-of3 .ensures) (c .before .narrow .ensures ∙ c .before .before .depth-of .ensures .0)
@@ -78,17 +54,8 @@ returns-3 c = still (c .before .before .before .before .before .before .before .
 lower-part-requires : tie.Need-lower-part-requires
 lower-part-requires c κs = in-scope (c .before .before .before .before .before .before .before .before .before .before .before .before .before .before .before .before .before .before .before .pre) (sym (c .before .before .before .before .before .before .before .before .before .before .before .before .before .before .before .before .before .symbol-of .ensures .0) ∙ c .before .before .before .before .before .before .before .before .before .before .before .before .before .before .before .before .if1 .left) (c .before .before .before .before .before .before .before .before .before .before .before .before .before .before .before .height-of .ensures .0) (c .before .before .before .before .before .before .before .before .before .before .before .before .before .end-of .ensures) (sym (c .before .before .before .before .before .before .before .before .before .before .before .symbol-of2 .ensures .0) ∙ c .before .before .before .before .before .before .before .before .before .before .if2 .left) (c .before .before .before .before .before .before .before .before .end-of2 .ensures) (c .before .before .before .before .before .before .end-of3 .ensures) (c .before .before .before .before .narrow .ensures ∙ c .before .before .before .before .before .depth-of .ensures .0)
 
-sub-move-left : tie.Need-sub-move-left
-sub-move-left c = search needs
-
 move-left-requires : tie.Need-move-left-requires
 move-left-requires c κs = let b = bounds (c .before .before .before .before .before .before .before .before .before .before .before .before .before .before .before .before .before .before .before .before .before .pre) in (omega arith, (omega (arith, c .before .before .before .before .before .before .before .before .before .before .end-of2 .ensures .inside), omega (arith, c .before .lower-part .ensures .same-length)), c .before .lower-part .ensures .same-length ∙ b .0)
-
-sub-t10 : tie.Need-sub-t10
-sub-t10 c = search needs
-
-sub-t16 : tie.Need-sub-t16
-sub-t16 c = search needs
 
 returns-4 : tie.Need-returns-4
 returns-4 c = gone (c .before .before .before .before .before .before .before .before .before .before .before .before .before .before .before .before .before .before .before .before .before .before .pre) (sym (c .before .before .before .before .before .before .before .before .before .before .before .before .before .before .before .before .before .before .before .before .symbol-of .ensures .0) ∙ c .before .before .before .before .before .before .before .before .before .before .before .before .before .before .before .before .before .before .before .if1 .left) (c .before .before .before .before .before .before .before .before .before .before .before .before .before .before .before .before .before .before .height-of .ensures .0) (c .before .before .before .before .before .before .before .before .before .before .before .before .before .before .before .before .end-of .ensures) (sym (c .before .before .before .before .before .before .before .before .before .before .before .before .before .before .symbol-of2 .ensures .0) ∙ c .before .before .before .before .before .before .before .before .before .before .before .before .before .if2 .left) (c .before .before .before .before .before .before .before .before .before .before .before .end-of2 .ensures) (c .before .before .before .before .before .before .before .before .before .end-of3 .ensures) (c .before .before .before .before .before .before .before .narrow .ensures ∙ c .before .before .before .before .before .before .before .before .depth-of .ensures .0) (c .before .before .before .before .before .uses .ensures) (omega (arith, c .before .before .before .before .if3 .left)) (c .before .before .lower-part .ensures) (c .move-left .ensures)
@@ -99,27 +66,27 @@ removal-spec =
     (tie.spec
     mul-v
     element-copy-out-v
-    symbol-of-requires
+    (λ c κs. search needs)
     returns
-    height-of-requires
-    add-end-of
-    add-end-of-2
+    (λ c κs. search needs)
+    (λ c. search needs)
+    (λ c. search needs)
     end-of-requires
     mul-symbol-of
     element-copy-out-symbol-of
-    symbol-of-requires-2
+    (λ c κs. search needs)
     returns-2
     add-end-of-3
-    add-end-of-4
+    (λ c. search needs)
     end-of-requires-2
     end-of-requires-3
-    depth-of-requires
-    narrow-requires
+    (λ c κs. search needs)
+    (λ c κs. search needs)
     uses-requires
     returns-3
     lower-part-requires
-    sub-move-left
+    (λ c. search needs)
     move-left-requires
-    sub-t10
-    sub-t16
+    (λ c. search needs)
+    (λ c. search needs)
     returns-4)

@@ -22,14 +22,8 @@ mul-v c = omega (arith, place-inside (last-in-body (c .pre)))
 element-copy-out-v : tie.Need-element-copy-out-v
 element-copy-out-v c = omega (arith, place-inside (last-in-body (c .pre)))
 
-symbol-of-requires : tie.Need-symbol-of-requires
-symbol-of-requires c κs = search needs
-
 returns : tie.Need-returns
 returns c = no-type-there (c .before .before .before .pre) (c .before .symbol-of .ensures .0) (c .if1 .taken)
-
-depth-of-requires : tie.Need-depth-of-requires
-depth-of-requires c κs = search needs
 
 find-requires : tie.Need-find-requires
 find-requires c κs = some-bound (c .before .before .depth-of .ensures .0) (c .before .if2 .taken) (last-in-body (c .before .before .before .before .before .before .pre)) (c .before .before .before .before .symbol-of .ensures .0) (omega (arith, c .before .before .before .if1 .left)) (omega (arith, c .before .before .before .before .symbol-of .ensures .0, last-small (c .before .before .before .before .before .before .pre .held)))
@@ -40,29 +34,17 @@ mul-height-of c = omega (arith, place-inside (last-in-body (c .before .before .b
 element-copy-out-height-of : tie.Need-element-copy-out-height-of
 element-copy-out-height-of c = omega (arith, place-inside (last-in-body (c .before .before .before .before .before .before .before .pre)), abstractor-before (c .before .before .before .depth-of .ensures .0) (c .before .before .if2 .taken) (c .find .ensures) (last-in-body (c .before .before .before .before .before .before .before .pre)) (c .before .before .before .before .before .symbol-of .ensures .0) (omega (arith, c .before .before .before .before .if1 .left)) (omega (arith, c .before .before .before .before .before .symbol-of .ensures .0, last-small (c .before .before .before .before .before .before .before .pre .held))))
 
-height-of-requires : tie.Need-height-of-requires
-height-of-requires c κs = search needs
-
 add-end-of : tie.Need-add-end-of
 add-end-of c = omega (arith, place-inside (last-in-body (c .before .before .before .before .before .before .before .before .before .before .pre)), abstractor-before (c .before .before .before .before .before .before .depth-of .ensures .0) (c .before .before .before .before .before .if2 .taken) (c .before .before .before .find .ensures) (last-in-body (c .before .before .before .before .before .before .before .before .before .before .pre)) (c .before .before .before .before .before .before .before .before .symbol-of .ensures .0) (omega (arith, c .before .before .before .before .before .before .before .if1 .left)) (omega (arith, c .before .before .before .before .before .before .before .before .symbol-of .ensures .0, last-small (c .before .before .before .before .before .before .before .before .before .before .pre .held))))
 
-add-end-of-2 : tie.Need-add-end-of-2
-add-end-of-2 c = search needs
-
 end-of-requires : tie.Need-end-of-requires
 end-of-requires c κs = let b = place-inside (last-in-body (c .before .before .before .before .before .before .before .before .before .before .pre)) in (b .2, b .1, omega (arith, place-inside (last-in-body (c .before .before .before .before .before .before .before .before .before .before .pre)), abstractor-before (c .before .before .before .before .before .before .depth-of .ensures .0) (c .before .before .before .before .before .if2 .taken) (c .before .before .before .find .ensures) (last-in-body (c .before .before .before .before .before .before .before .before .before .before .pre)) (c .before .before .before .before .before .before .before .before .symbol-of .ensures .0) (omega (arith, c .before .before .before .before .before .before .before .if1 .left)) (omega (arith, c .before .before .before .before .before .before .before .before .symbol-of .ensures .0, last-small (c .before .before .before .before .before .before .before .before .before .before .pre .held)))))
-
-add-t23 : tie.Need-add-t23
-add-t23 c = search needs
 
 put-requires : tie.Need-put-requires
 put-requires c κs = puttable (last-in-body (c .before .before .before .before .before .before .before .before .before .before .before .before .pre)) (c .before .before .before .before .before .before .before .before .before .before .symbol-of .ensures .0) (omega (arith, c .before .before .before .before .before .before .before .before .before .if1 .left)) (omega (arith, c .before .before .before .before .before .before .before .before .before .before .symbol-of .ensures .0, last-small (c .before .before .before .before .before .before .before .before .before .before .before .before .pre .held))) (domain-inside (c .before .before .before .before .before .before .before .before .depth-of .ensures .0) (c .before .before .before .before .before .before .before .if2 .taken) (c .before .before .before .before .before .find .ensures) (c .before .before .before .height-of .ensures .0) (c .before .end-of .ensures) (place-inside (last-in-body (c .before .before .before .before .before .before .before .before .before .before .before .before .pre)) .0))
 
 returns-2 : tie.Need-returns-2
 returns-2 c = type-put (c .before .before .before .before .before .before .before .before .before .before .before .before .before .pre) (c .before .before .before .before .before .before .before .before .before .before .before .symbol-of .ensures .0) (omega (arith, c .before .before .before .before .before .before .before .before .before .before .if1 .left)) (domain-inside (c .before .before .before .before .before .before .before .before .before .depth-of .ensures .0) (c .before .before .before .before .before .before .before .before .if2 .taken) (c .before .before .before .before .before .before .find .ensures) (c .before .before .before .before .height-of .ensures .0) (c .before .before .end-of .ensures) (place-inside (last-in-body (c .before .before .before .before .before .before .before .before .before .before .before .before .before .pre)) .0)) (c .put .ensures)
-
-sub-entry-at : tie.Need-sub-entry-at
-sub-entry-at c = search needs
 
 entry-at-requires : tie.Need-entry-at-requires
 entry-at-requires c κs = looked-up (c .before .depth-of .ensures .0) (c .if2 .left) (last-in-body (c .before .before .before .before .before .pre)) (c .before .before .before .symbol-of .ensures .0) (omega (arith, c .before .before .before .symbol-of .ensures .0, last-small (c .before .before .before .before .before .pre .held)))
@@ -80,20 +62,20 @@ type-in-place-spec =
     sub-p
     mul-v
     element-copy-out-v
-    symbol-of-requires
+    (λ c κs. search needs)
     returns
-    depth-of-requires
+    (λ c κs. search needs)
     find-requires
     mul-height-of
     element-copy-out-height-of
-    height-of-requires
+    (λ c κs. search needs)
     add-end-of
-    add-end-of-2
+    (λ c. search needs)
     end-of-requires
-    add-t23
+    (λ c. search needs)
     put-requires
     returns-2
-    sub-entry-at
+    (λ c. search needs)
     entry-at-requires
     put-requires-2
     returns-3)

@@ -16,23 +16,8 @@ abbrev μ-loop : tie.MeasureT-loop
 loop-holds : tie.Need-loop-holds Inv-loop μ-loop
 loop-holds c = record { few = omega arith; sum = omega arith }
 
-mul-use-of : tie.Need-mul-use-of Inv-loop μ-loop
-mul-use-of c = search needs
-
-element-copy-out-use-of : tie.Need-element-copy-out-use-of Inv-loop μ-loop
-element-copy-out-use-of c = search needs
-
 use-of-requires : tie.Need-use-of-requires Inv-loop μ-loop
 use-of-requires c κs = c .before .before .before .pre .deep _ (omega (arith, c .before .before .loop .inv .few)) (c .before .loop-test .taken)
-
-add-count : tie.Need-add-count Inv-loop μ-loop
-add-count c = search needs
-
-add-i : tie.Need-add-i Inv-loop μ-loop
-add-i c = search needs
-
-loop-less : tie.Need-loop-less Inv-loop μ-loop
-loop-less c = search needs
 
 loop-again : tie.Need-loop-again Inv-loop μ-loop
 loop-again c = let p = c .before .before .before .before .pre in counting-next (c .before .before .before .loop .inv) (c .before .before .loop-test .taken) (omega (arith, p .inside, p .array)) (c .use-of .ensures .0) (c .use-of .ensures .1)
@@ -47,11 +32,11 @@ uses-spec =
     Inv-loop
     μ-loop
     loop-holds
-    mul-use-of
-    element-copy-out-use-of
+    (λ c. search needs)
+    (λ c. search needs)
     use-of-requires
-    add-count
-    add-i
-    loop-less
+    (λ c. search needs)
+    (λ c. search needs)
+    (λ c. search needs)
     loop-again
     returns)

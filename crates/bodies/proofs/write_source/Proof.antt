@@ -19,23 +19,11 @@ returns c = source-read (c .before .before .before .before .pre) (c .before .bef
 sub-narrow : tie.Need-sub-narrow
 sub-narrow c = omega (arith, source-lower (c .before .pre) (c .if1 .left))
 
-narrow-requires : tie.Need-narrow-requires
-narrow-requires c κs = search needs
-
 deepest-requires : tie.Need-deepest-requires
 deepest-requires c κs = source-some (c .before .before .before .pre) (c .before .before .if1 .left)
 
-narrow-requires-2 : tie.Need-narrow-requires-2
-narrow-requires-2 c κs = search needs
-
-add-if2 : tie.Need-add-if2
-add-if2 c = search needs
-
 returns-2 : tie.Need-returns-2
 returns-2 c = source-deep (c .before .before .before .before .before .before .pre) (c .before .before .before .before .before .if1 .left) (c .before .before .deepest .ensures) (omega (arith, c .before .before .before .before .narrow .ensures, c .before .narrow2 .ensures, c .if2 .taken))
-
-narrow-requires-3 : tie.Need-narrow-requires-3
-narrow-requires-3 c κs = search needs
 
 narrow-requires-4 : tie.Need-narrow-requires-4
 narrow-requires-4 c κs = omega (arith, source-lower (c .before .before .before .before .before .before .before .before .pre) (c .before .before .before .before .before .before .before .if1 .left))
@@ -53,12 +41,12 @@ write-source-spec =
     read-requires
     returns
     sub-narrow
-    narrow-requires
+    (λ c κs. search needs)
     deepest-requires
-    narrow-requires-2
-    add-if2
+    (λ c κs. search needs)
+    (λ c. search needs)
     returns-2
-    narrow-requires-3
+    (λ c κs. search needs)
     narrow-requires-4
     lift-part-requires
     returns-3)

@@ -16,27 +16,6 @@ read-flat-requires c κs = (readable-flat (c .before .before .before .before .pr
 returns : tie.Need-returns
 returns c = reads-flat (c .read-flat .ensures)
 
-sub-if2 : tie.Need-sub-if2
-sub-if2 c = search needs
-
-slice-aggregate-read-with : tie.Need-slice-aggregate-read-with
-slice-aggregate-read-with c = search needs
-
-read-with-requires : tie.Need-read-with-requires
-read-with-requires c κs = search needs
-
-returns-2 : tie.Need-returns-2
-returns-2 c = search needs
-
-slice-aggregate-read-with-2 : tie.Need-slice-aggregate-read-with-2
-slice-aggregate-read-with-2 c = search needs
-
-read-with-requires-2 : tie.Need-read-with-requires-2
-read-with-requires-2 c κs = search needs
-
-returns-3 : tie.Need-returns-3
-returns-3 c = search needs
-
 pub read-spec : {M : Type 1} → statement M
 read-spec =
     tie.close
@@ -44,10 +23,10 @@ read-spec =
     largest-byte-requires
     read-flat-requires
     returns
-    sub-if2
-    slice-aggregate-read-with
-    read-with-requires
-    returns-2
-    slice-aggregate-read-with-2
-    read-with-requires-2
-    returns-3)
+    (λ c. search needs)
+    (λ c. search needs)
+    (λ c κs. search needs)
+    (λ c. search needs)
+    (λ c. search needs)
+    (λ c κs. search needs)
+    (λ c. search needs))

@@ -24,9 +24,6 @@ loop-holds c = λ t a. flat-start a (c .before .pre .0 .standing .short)
 shared-slice-read-b : tie.Need-shared-slice-read-b Inv-loop μ-loop
 shared-slice-read-b c = omega (arith, stands-end (c .before .before .before .before .pre .0 .standing .stands))
 
-index-of-requires : tie.Need-index-of-requires Inv-loop μ-loop
-index-of-requires c κs = search needs
-
 sub-height : tie.Need-sub-height Inv-loop μ-loop
 sub-height c = omega (arith, reading-ready (c .before .before .before .loop .inv _ (c .before .before .before .before .before .pre .0 .standing .stands)) (c .before .before .loop-test .taken) .positive)
 
@@ -63,14 +60,8 @@ element-write-out-2 c = omega (arith, reading-place (c .before .before .before .
 add-count : tie.Need-add-count Inv-loop μ-loop
 add-count c = omega (arith, reading-high (c .before .before .before .before .before .loop .inv _ (c .before .before .before .before .before .before .before .pre .0 .standing .stands)) (c .before .before .before .before .loop-test .taken) (c .before .before .before .before .before .before .before .pre .0 .high))
 
-add-i : tie.Need-add-i Inv-loop μ-loop
-add-i c = search needs
-
 add-j : tie.Need-add-j Inv-loop μ-loop
 add-j c = omega (arith, reading-place (c .before .before .before .before .loop .inv _ (c .before .before .before .before .before .before .pre .0 .standing .stands)) (c .before .before .before .loop-test .taken) (c .before .before .before .before .before .before .pre .0 .fits))
-
-loop-less : tie.Need-loop-less Inv-loop μ-loop
-loop-less c = search needs
 
 loop-again : tie.Need-loop-again Inv-loop μ-loop
 loop-again c = λ t a. ⊎-elim (λ w. terminal-next (c .before .before .before .before .loop .inv t a) (c .before .before .before .loop-test .taken) (terminal-stored (w .0 .taken) (c .before .index-of .ensures .0) (w .1 .ensures .0) (w .2 .ensures) (w .3)) (w .4) (w .0 .taken)) (λ w. applicator-next (c .before .before .before .before .loop .inv t a) (c .before .before .before .loop-test .taken) (operator-stored (w .0 .left) (c .before .index-of .ensures .0) (w .1 .ensures) (w .2)) (w .3) (c .before .before .before .before .before .before .pre .1) (w .0 .left)) (c .if1 .came)
@@ -86,7 +77,7 @@ read-flat-spec =
     μ-loop
     loop-holds
     shared-slice-read-b
-    index-of-requires
+    (λ c κs. search needs)
     sub-height
     add-height
     lifted-index-requires
@@ -99,8 +90,8 @@ read-flat-spec =
     mul-out-2
     element-write-out-2
     add-count
-    add-i
+    (λ c. search needs)
     add-j
-    loop-less
+    (λ c. search needs)
     loop-again
     returns)

@@ -32,9 +32,6 @@ returns c = record { all = λ t a. too-deep (reading-deep (c .before .before .lo
 shared-slice-read-b : tie.Need-shared-slice-read-b Inv-loop μ-loop
 shared-slice-read-b c = omega (arith, stands-end (c .before .before .before .before .before .before .pre .0 .standing .stands))
 
-index-of-requires : tie.Need-index-of-requires Inv-loop μ-loop
-index-of-requires c κs = search needs
-
 add-depth : tie.Need-add-depth Inv-loop μ-loop
 add-depth c = omega (arith, c .before .before .before .before .before .before .before .pre .0 .deep)
 
@@ -71,14 +68,8 @@ element-write-out-2 c = omega (arith, reading-place (c .before .before .before .
 advance-requires : tie.Need-advance-requires Inv-loop μ-loop
 advance-requires c κs = reading-ready (c .before .before .before .before .before .before .loop .inv .1 _ (c .before .before .before .before .before .before .before .before .before .pre .0 .standing .stands)) (c .before .before .before .before .before .loop-test .taken)
 
-add-i : tie.Need-add-i Inv-loop μ-loop
-add-i c = search needs
-
 add-j : tie.Need-add-j Inv-loop μ-loop
 add-j c = omega (arith, reading-place (c .before .before .before .before .before .before .before .before .before .loop .inv .1 _ (c .before .before .before .before .before .before .before .before .before .before .before .before .pre .0 .standing .stands)) (c .before .before .before .before .before .before .before .before .loop-test .taken) (c .before .before .before .before .before .before .before .before .before .before .before .before .pre .0 .fits))
-
-loop-less : tie.Need-loop-less Inv-loop μ-loop
-loop-less c = search needs
 
 loop-again : tie.Need-loop-again Inv-loop μ-loop
 loop-again c = (c .before .before .advance .ensures .same-length ∙ c .before .before .before .before .before .before .before .before .before .loop .inv .0, λ t a. reading-next (c .before .before .before .before .before .before .before .before .before .loop .inv .1 t a) (c .before .before .before .before .before .before .before .before .loop-test .taken) (c .before .before .before .before .before .before .before .if1 .left) (⊎-elim (λ w. terminal-stored (w .0 .taken) (c .before .before .before .before .before .index-of .ensures .0) (w .1 .ensures .0) (w .2 .ensures) (w .3)) (λ w. operator-stored (w .0 .left) (c .before .before .before .before .before .index-of .ensures .0) (w .1 .ensures) (w .2)) (c .before .before .before .before .if2 .came)) (c .before .before .advance .ensures))
@@ -99,7 +90,7 @@ read-with-spec =
     same-length
     returns
     shared-slice-read-b
-    index-of-requires
+    (λ c κs. search needs)
     add-depth
     sub-height
     add-height
@@ -112,9 +103,9 @@ read-with-spec =
     mul-out-2
     element-write-out-2
     advance-requires
-    add-i
+    (λ c. search needs)
     add-j
-    loop-less
+    (λ c. search needs)
     loop-again
     same-length-2
     returns-2)

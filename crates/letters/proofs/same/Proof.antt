@@ -17,30 +17,6 @@ abbrev μ-loop : tie.MeasureT-loop
 loop-holds : tie.Need-loop-holds Inv-loop μ-loop
 loop-holds c = record { inside = omega arith; few = omega arith; none = (λ e. refl, λ e. refl) }
 
-mul-differ : tie.Need-mul-differ Inv-loop μ-loop
-mul-differ c = search needs
-
-element-copy-out-differ : tie.Need-element-copy-out-differ Inv-loop μ-loop
-element-copy-out-differ c = search needs
-
-mul-differ-2 : tie.Need-mul-differ-2 Inv-loop μ-loop
-mul-differ-2 c = search needs
-
-element-copy-out-differ-2 : tie.Need-element-copy-out-differ-2 Inv-loop μ-loop
-element-copy-out-differ-2 c = search needs
-
-differ-requires : tie.Need-differ-requires Inv-loop μ-loop
-differ-requires c κs = search needs
-
-add-count : tie.Need-add-count Inv-loop μ-loop
-add-count c = search needs
-
-add-i : tie.Need-add-i Inv-loop μ-loop
-add-i c = search needs
-
-loop-less : tie.Need-loop-less Inv-loop μ-loop
-loop-less c = search needs
-
 loop-again : tie.Need-loop-again Inv-loop μ-loop
 loop-again c = counting-next (c .before .before .before .before .loop .inv) (c .before .before .before .loop-test .taken) (omega (arith, c .before .before .before .before .before .pre)) (omega (arith, c .before .before .before .before .before .pre)) (c .differ .ensures .0) (c .differ .ensures .1)
 
@@ -54,13 +30,13 @@ same-spec =
     Inv-loop
     μ-loop
     loop-holds
-    mul-differ
-    element-copy-out-differ
-    mul-differ-2
-    element-copy-out-differ-2
-    differ-requires
-    add-count
-    add-i
-    loop-less
+    (λ c. search needs)
+    (λ c. search needs)
+    (λ c. search needs)
+    (λ c. search needs)
+    (λ c κs. search needs)
+    (λ c. search needs)
+    (λ c. search needs)
+    (λ c. search needs)
     loop-again
     returns)

@@ -24,18 +24,6 @@ mul-byte-of c = omega (arith, lies-end (c .before .before .before .pre .lies), c
 element-copy-out-byte-of : tie.Need-element-copy-out-byte-of Inv-loop μ-loop
 element-copy-out-byte-of c = omega (arith, lies-end (c .before .before .before .pre .lies), c .before .before .before .pre .array)
 
-byte-of-requires : tie.Need-byte-of-requires Inv-loop μ-loop
-byte-of-requires c κs = search needs
-
-slice-write-out : tie.Need-slice-write-out Inv-loop μ-loop
-slice-write-out c = search needs
-
-add-i : tie.Need-add-i Inv-loop μ-loop
-add-i c = search needs
-
-loop-less : tie.Need-loop-less Inv-loop μ-loop
-loop-less c = search needs
-
 loop-again : tie.Need-loop-again Inv-loop μ-loop
 loop-again c = writing-next (c .before .before .before .loop .inv) (c .before .before .loop-test .taken) (lies-end (c .before .before .before .before .before .pre .lies) .1) (c .byte-of .ensures)
 
@@ -54,10 +42,10 @@ write-spec =
     loop-holds
     mul-byte-of
     element-copy-out-byte-of
-    byte-of-requires
-    slice-write-out
-    add-i
-    loop-less
+    (λ c κs. search needs)
+    (λ c. search needs)
+    (λ c. search needs)
+    (λ c. search needs)
     loop-again
     same-length
     returns)
