@@ -10,20 +10,8 @@ use Rattle.calls.proofs.type_accepted.Tie as tie
 open-body-requires : tie.Need-open-body-requires
 open-body-requires c κs = (c .before .before .before .pre, refl)
 
-empty-frame-requires : tie.Need-empty-frame-requires
-empty-frame-requires c κs = search needs
-
 type-in-place-requires : tie.Need-type-in-place-requires
 type-in-place-requires c κs = some-held (c .before .before .before .before .before .before .before .pre) (c .before .before .before .open-body .ensures) (c .before .before .empty-frame .ensures) refl
-
-enum-told : tie.Need-enum-told
-enum-told c = search needs
-
-enum-told-2 : tie.Need-enum-told-2
-enum-told-2 c = search needs
-
-enum-known-typed : tie.Need-enum-known-typed
-enum-known-typed c = search needs
 
 deliver-requires : tie.Need-deliver-requires
 deliver-requires c κs = let u = answers-letters (type-answers (c .before .before .before .before .before .before .before .before .before .before .before .before .before .pre) (c .before .before .before .before .before .before .before .before .before .open-body .ensures) (c .before .before .before .before .before .before .before .before .empty-frame .ensures) refl [] (c .before .before .before .before .before .type-in-place .ensures)) (c .before .before .before .typed .given .1) in (u .0, u .1)
@@ -34,9 +22,6 @@ returns c = answers-unmet (type-answers (c .before .before .before .before .befo
 returns-2 : tie.Need-returns-2
 returns-2 c = answers-large (type-answers (c .before .before .before .before .before .before .before .before .before .before .pre) (c .before .before .before .before .before .before .open-body .ensures) (c .before .before .before .before .before .empty-frame .ensures) refl _ (c .before .before .type-in-place .ensures)) (c .enum-told2 .given .1)
 
-same-length : tie.Need-same-length
-same-length c = search needs
-
 returns-3 : tie.Need-returns-3
 returns-3 c = answers-done (type-answers (c .before .before .before .before .before .before .before .before .before .before .before .before .before .before .before .before .pre) (c .before .before .before .before .before .before .before .before .before .before .before .before .open-body .ensures) (c .before .before .before .before .before .before .before .before .before .before .before .empty-frame .ensures) refl _ (c .before .before .before .before .before .before .before .before .type-in-place .ensures)) (c .before .before .before .before .before .before .typed .given .1) (c .before .before .deliver .ensures)
 
@@ -45,13 +30,13 @@ type-accepted-spec =
     tie.close
     (tie.spec
     open-body-requires
-    empty-frame-requires
+    (λ c κs. search needs)
     type-in-place-requires
-    enum-told
-    enum-told-2
-    enum-known-typed
+    (λ c. search needs)
+    (λ c. search needs)
+    (λ c. search needs)
     deliver-requires
     returns
     returns-2
-    same-length
+    (λ c. search needs)
     returns-3)

@@ -9,14 +9,8 @@ use Rattle.compare.proofs.compare_sides.Tie as tie
 use Rattle.compare.proofs.replay.Reads as replay-reads
 use Rattle.letters.proofs.same.Reads as same-reads
 
-replay-requires : tie.Need-replay-requires
-replay-requires c κs = search needs
-
 returns : tie.Need-returns
 returns c = (left-stops (c .before .before .replay .ensures) (c .if1 .taken), record { left-long = c .before .before .replay .ensures .array; right-long = c .before .before .before .before .before .pre .right-body .held .array })
-
-replay-requires-2 : tie.Need-replay-requires-2
-replay-requires-2 c κs = search needs
 
 returns-2 : tie.Need-returns-2
 returns-2 c = (right-stops (c .before .before .before .before .before .before .replay .ensures) (c .before .before .before .before .if1 .left) (c .before .before .replay2 .ensures) (c .if2 .taken), record { left-long = c .before .before .before .before .before .before .replay .ensures .array; right-long = c .before .before .replay2 .ensures .array })
@@ -37,9 +31,9 @@ pub compare-sides-spec : {M : Type 1} → statement M
 compare-sides-spec =
     tie.close
     (tie.spec
-    replay-requires
+    (λ c κs. search needs)
     returns
-    replay-requires-2
+    (λ c κs. search needs)
     returns-2
     returns-3
     same-requires

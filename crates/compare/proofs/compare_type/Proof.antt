@@ -17,9 +17,6 @@ use Rattle.fields.proofs.group_at.Reads as group-at-reads
 returns : tie.Need-returns
 returns c = (typed-no-group (c .before .before .pre .0 .comparing) (c .if1 .taken), c .before .before .pre .1)
 
-add-load : tie.Need-add-load
-add-load c = search needs
-
 load-requires : tie.Need-load-requires
 load-requires c κs = domain-loads (c .before .before .before .pre .0 .comparing) (c .before .before .before .pre .1 .right-long)
 
@@ -28,12 +25,6 @@ returns-2 c = (typed-large-domain (c .before .before .before .before .before .pr
 
 group-at-requires : tie.Need-group-at-requires
 group-at-requires c κs = some-left (c .before .before .before .before .before .pre .0 .comparing .stand) (c .before .before .before .if1 .left)
-
-add-compare-sides : tie.Need-add-compare-sides
-add-compare-sides c = search needs
-
-sub-compare-sides : tie.Need-sub-compare-sides
-sub-compare-sides c = search needs
 
 compare-sides-requires : tie.Need-compare-sides-requires
 compare-sides-requires c κs = two-sides (c .before .before .before .before .before .before .before .before .pre .0 .comparing) (c .before .before .group-at .ensures) (c .before .before .before .before .before .before .before .before .pre .0 .typed) (c .before .before .before .before .before .before .before .before .pre .1 .right-long) (answered (not-false _ (c .before .before .before .if2 .left)) (c .before .before .before .before .load .ensures))
@@ -46,11 +37,11 @@ compare-type-spec =
     tie.close
     (tie.spec
     returns
-    add-load
+    (λ c. search needs)
     load-requires
     returns-2
     group-at-requires
-    add-compare-sides
-    sub-compare-sides
+    (λ c. search needs)
+    (λ c. search needs)
     compare-sides-requires
     returns-3)

@@ -23,20 +23,11 @@ step-at-requires c κs = let r = next-step (c .before .loop .inv .range) (c .loo
 step-in-place-requires : tie.Need-step-in-place-requires Inv-loop μ-loop
 step-in-place-requires c κs = c .before .before .before .loop .inv .some
 
-enum-told : tie.Need-enum-told Inv-loop μ-loop
-enum-told c = search needs
-
 returns : tie.Need-returns Inv-loop μ-loop
 returns c = replaying-refused (c .before .before .before .before .before .before .loop .inv) (c .before .before .before .before .before .loop-test .taken) (c .before .before .before .before .step-at .ensures .0) (c .before .before .step-in-place .ensures) (c .enum-told .given .1)
 
-enum-told-2 : tie.Need-enum-told-2 Inv-loop μ-loop
-enum-told-2 c = search needs
-
 returns-2 : tie.Need-returns-2 Inv-loop μ-loop
 returns-2 c = replaying-outgrown (c .before .before .before .before .before .before .loop .inv) (c .before .before .before .before .before .loop-test .taken) (c .before .before .before .before .step-at .ensures .0) (c .before .before .step-in-place .ensures) (c .enum-told2 .given .1)
-
-enum-known-stepped : tie.Need-enum-known-stepped Inv-loop μ-loop
-enum-known-stepped c = search needs
 
 add-at : tie.Need-add-at Inv-loop μ-loop
 add-at c = let r = next-step (c .before .before .before .before .before .before .before .loop .inv .range) (c .before .before .before .before .before .before .loop-test .taken) .1 in omega (arith, r .ordered, r .inside)
@@ -59,11 +50,11 @@ replay-spec =
     loop-holds
     step-at-requires
     step-in-place-requires
-    enum-told
+    (λ c. search needs)
     returns
-    enum-told-2
+    (λ c. search needs)
     returns-2
-    enum-known-stepped
+    (λ c. search needs)
     add-at
     loop-less
     loop-again

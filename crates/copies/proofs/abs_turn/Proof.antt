@@ -9,39 +9,21 @@ use Rattle.copies.proofs.pair_from_w.Reads as pair-from-w-reads
 use Rattle.copies.proofs.pair_from_y.Reads as pair-from-y-reads
 use Rattle.frames.proofs.end_of.Reads as end-of-reads
 
-add-end-of : tie.Need-add-end-of
-add-end-of c = search needs
-
 end-of-requires : tie.Need-end-of-requires
 end-of-requires c κs = (c .before .before .before .before .pre .0, abs-standing (c .before .before .before .before .pre .1 .at) (c .before .before .before .before .pre .1 .room) (c .before .before .before .before .pre .2) (c .before .before .before .before .pre .3))
 
-pair-from-y-requires : tie.Need-pair-from-y-requires
-pair-from-y-requires c κs = search needs
-
-returns : tie.Need-returns
-returns c = search needs
-
-enter-alone-requires : tie.Need-enter-alone-requires
-enter-alone-requires c κs = search needs
-
 returns-2 : tie.Need-returns-2
 returns-2 c = (c .enter-alone .ensures, c .before .before .before .before .before .before .before .before .before .before .before .pre .4)
-
-pair-from-w-requires : tie.Need-pair-from-w-requires
-pair-from-w-requires c κs = search needs
-
-returns-3 : tie.Need-returns-3
-returns-3 c = search needs
 
 pub abs-turn-spec : {M : Type 1} → statement M
 abs-turn-spec =
     tie.close
     (tie.spec
-    add-end-of
+    (λ c. search needs)
     end-of-requires
-    pair-from-y-requires
-    returns
-    enter-alone-requires
+    (λ c κs. search needs)
+    (λ c. search needs)
+    (λ c κs. search needs)
     returns-2
-    pair-from-w-requires
-    returns-3)
+    (λ c κs. search needs)
+    (λ c. search needs))

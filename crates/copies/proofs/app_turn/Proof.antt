@@ -15,20 +15,11 @@ use Rattle.copies.proofs.go_on.Reads as go-on-reads
 use Rattle.indices.proofs.larger.Reads as larger-reads
 use Rattle.waiting.proofs.store_slot.Reads as store-slot-reads
 
-add-end-of : tie.Need-add-end-of
-add-end-of c = search needs
-
 end-of-requires : tie.Need-end-of-requires
 end-of-requires c κs = (c .before .before .pre .0, app-standing (c .before .before .pre .1 .at) (c .before .before .pre .1 .room) (c .before .before .pre .2))
 
-add-scope-in : tie.Need-add-scope-in
-add-scope-in c = search needs
-
 scope-in-requires : tie.Need-scope-in-requires
 scope-in-requires c κs = app-measurable (c .before .before .before .before .pre .1 .at) (c .before .before .before .before .pre .1 .room) (c .before .before .before .before .pre .2) (c .before .end-of .ensures)
-
-waiting-extent-requires : tie.Need-waiting-extent-requires
-waiting-extent-requires c κs = search needs
 
 sub-t20 : tie.Need-sub-t20
 sub-t20 c = omega (arith, app-bounds (c .before .before .before .before .before .before .before .pre .1 .at) (c .before .before .before .before .before .before .before .pre .1 .room) (c .before .before .before .before .before .before .before .pre .2) (c .before .before .before .before .end-of .ensures) .0)
@@ -36,17 +27,11 @@ sub-t20 c = omega (arith, app-bounds (c .before .before .before .before .before 
 add-t23 : tie.Need-add-t23
 add-t23 c = let b = app-bounds (c .before .before .before .before .before .before .before .before .pre .1 .at) (c .before .before .before .before .before .before .before .before .pre .1 .room) (c .before .before .before .before .before .before .before .before .pre .2) (c .before .before .before .before .before .end-of .ensures) in omega (arith, c .before .waiting-extent .ensures .size-bound, b .1, b .2)
 
-larger-requires : tie.Need-larger-requires
-larger-requires c κs = search needs
-
 store-slot-requires : tie.Need-store-slot-requires
 store-slot-requires c κs = let g = c .before .before .before .before .before .before .before .before .before .before .pre .1 in let x = c .before .before .before .before .before .before .before .end-of .ensures in (app-ytop (g .at) (g .room) (c .before .before .before .before .before .before .before .before .before .before .pre .2) x, g .at .ylong, app-small (g .at) (g .room) (c .before .before .before .before .before .before .before .before .before .before .pre .2) x (c .before .before .before .waiting-extent .ensures) (c .before .before .before .before .before .scope-in .ensures) (c .before .larger .ensures))
 
 add-t20 : tie.Need-add-t20
 add-t20 c = omega (arith, app-ytop (c .before .before .before .before .before .before .before .before .before .before .before .before .pre .1 .at) (c .before .before .before .before .before .before .before .before .before .before .before .before .pre .1 .room) (c .before .before .before .before .before .before .before .before .before .before .before .before .pre .2) (c .before .before .before .before .before .before .before .before .before .end-of .ensures))
-
-go-on-requires : tie.Need-go-on-requires
-go-on-requires c κs = search needs
 
 returns : tie.Need-returns
 returns c = rw (c .go-on .ensures) (noted-ruled (c .before .before .before .before .before .before .before .before .before .before .before .before .before .pre .1) (c .before .before .store-slot .ensures) (λ R W Q B p z o. app-goes z o (c .before .before .before .before .before .before .before .before .before .before .before .before .before .pre .2) (c .before .before .before .before .before .before .before .before .before .before .end-of .ensures) (c .before .before .before .before .before .before .waiting-extent .ensures) (c .before .before .before .before .before .before .before .before .scope-in .ensures) _ (c .before .before .before .before .larger .ensures) (c .before .before .store-slot .ensures)))
@@ -55,15 +40,15 @@ pub app-turn-spec : {M : Type 1} → statement M
 app-turn-spec =
     tie.close
     (tie.spec
-    add-end-of
+    (λ c. search needs)
     end-of-requires
-    add-scope-in
+    (λ c. search needs)
     scope-in-requires
-    waiting-extent-requires
+    (λ c κs. search needs)
     sub-t20
     add-t23
-    larger-requires
+    (λ c κs. search needs)
     store-slot-requires
     add-t20
-    go-on-requires
+    (λ c κs. search needs)
     returns)

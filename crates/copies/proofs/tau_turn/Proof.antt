@@ -11,26 +11,14 @@ use Rattle.copies.proofs.tau_turn.Lts as lts
 use Rattle.waiting.proofs.slot_at.Reads as slot-at-reads
 use Rattle.copies.proofs.stop_with.Reads as stop-with-reads
 
-stop-with-requires : tie.Need-stop-with-requires
-stop-with-requires c κs = search needs
-
 returns : tie.Need-returns
 returns c = rw (c .stop-with .ensures) (still (c .before .before .before .before .before .pre .0) (omega arith) (λ R W Q B p z o. tau-never z _ _ (c .before .before .before .before .before .pre .1) (c .before .if1 .taken)))
-
-stop-with-requires-2 : tie.Need-stop-with-requires-2
-stop-with-requires-2 c κs = search needs
 
 returns-2 : tie.Need-returns-2
 returns-2 c = rw (c .stop-with2 .ensures) (still (c .before .before .before .before .before .before .before .pre .0) (omega arith) (λ R W Q B p z o. tau-passes z _ _ (c .before .before .before .before .before .before .before .pre .1) (c .before .before .before .if1 .left) (c .before .if2 .taken)))
 
 sub-slot-at : tie.Need-sub-slot-at
 sub-slot-at c = let z = c .before .before .before .before .before .before .before .pre .0 .at in omega (arith, queue-base (z .waits), c .before .if2 .left)
-
-slot-at-requires : tie.Need-slot-at-requires
-slot-at-requires c κs = search needs
-
-stop-with-requires-3 : tie.Need-stop-with-requires-3
-stop-with-requires-3 c κs = search needs
 
 returns-3 : tie.Need-returns-3
 returns-3 c = rw (c .stop-with3 .ensures) (still (c .before .before .before .before .before .before .before .before .before .pre .0) (omega arith) (λ R W Q B p z o. tau-waits z _ _ (c .before .before .before .before .before .before .before .before .before .pre .1) (c .before .before .before .before .before .if1 .left) (c .before .before .before .if2 .left) (c .before .slot-at .ensures .0)))
@@ -39,11 +27,11 @@ pub tau-turn-spec : {M : Type 1} → statement M
 tau-turn-spec =
     tie.close
     (tie.spec
-    stop-with-requires
+    (λ c κs. search needs)
     returns
-    stop-with-requires-2
+    (λ c κs. search needs)
     returns-2
     sub-slot-at
-    slot-at-requires
-    stop-with-requires-3
+    (λ c κs. search needs)
+    (λ c κs. search needs)
     returns-3)

@@ -9,32 +9,17 @@ use Rattle.copies.proofs.turn_in_frame.Tie as tie
 element-copy-out-b : tie.Need-element-copy-out-b
 element-copy-out-b c = in-text (c .before .before .pre .1 .at)
 
-tau-turn-requires : tie.Need-tau-turn-requires
-tau-turn-requires c κs = search needs
-
-returns : tie.Need-returns
-returns c = search needs
-
-var-turn-requires : tie.Need-var-turn-requires
-var-turn-requires c κs = search needs
-
-returns-2 : tie.Need-returns-2
-returns-2 c = search needs
-
 app-turn-requires : tie.Need-app-turn-requires
 app-turn-requires c κs = (c .before .before .before .before .before .before .pre .0, c .before .before .before .before .before .before .pre .1, omega (arith, c .before .if2 .left, c .before .before .before .before .before .before .pre .2))
-
-returns-3 : tie.Need-returns-3
-returns-3 c = search needs
 
 pub turn-in-frame-spec : {M : Type 1} → statement M
 turn-in-frame-spec =
     tie.close
     (tie.spec
     element-copy-out-b
-    tau-turn-requires
-    returns
-    var-turn-requires
-    returns-2
+    (λ c κs. search needs)
+    (λ c. search needs)
+    (λ c κs. search needs)
+    (λ c. search needs)
     app-turn-requires
-    returns-3)
+    (λ c. search needs))

@@ -26,17 +26,11 @@ sub-fits c = let z = now-stated (c .before .before .loop .inv .0) .at in omega (
 fits-requires : tie.Need-fits-requires Inv-loop μ-loop
 fits-requires c κs = let z = now-stated (c .before .before .loop .inv .0) .at in (queue-base (z .waits), z .tops, z .ytops, omega (arith, z .stored .inside), omega (arith, z .stored .few), omega (arith, z .inside, z .stored .inside), omega (arith, z .known-bound))
 
-stop-with-requires : tie.Need-stop-with-requires Inv-loop μ-loop
-stop-with-requires c κs = search needs
-
 returns : tie.Need-returns Inv-loop μ-loop
 returns c = rw (c .stop-with .ensures) (settles-outgrown (c .before .before .before .before .before .loop .inv .0) (c .before .before .before .before .before .loop .inv .1) (c .before .before .fits2 .ensures) (is-false _ (c .before .if1 .taken)))
 
 element-copy-out-if2 : tie.Need-element-copy-out-if2 Inv-loop μ-loop
 element-copy-out-if2 c = in-text (now-stated (c .before .before .before .before .loop .inv .0) .at)
-
-go-on-requires : tie.Need-go-on-requires Inv-loop μ-loop
-go-on-requires c κs = search needs
 
 returns-2 : tie.Need-returns-2 Inv-loop μ-loop
 returns-2 c = rw (c .go-on .ensures) (settles-abs (c .before .before .before .before .before .before .before .loop .inv .0) (c .before .before .before .before .before .before .before .loop .inv .1) (c .before .before .before .before .fits2 .ensures) (is-true _ (c .before .before .before .if1 .left)) (c .before .if2 .taken))
@@ -62,10 +56,10 @@ turns-to-abstractor-spec =
     loop-holds
     sub-fits
     fits-requires
-    stop-with-requires
+    (λ c κs. search needs)
     returns
     element-copy-out-if2
-    go-on-requires
+    (λ c κs. search needs)
     returns-2
     turn-in-frame-requires
     returns-3

@@ -15,17 +15,11 @@ use Rattle.copies.proofs.seen_index.Reads as seen-index-reads
 element-copy-out-seen-index : tie.Need-element-copy-out-seen-index
 element-copy-out-seen-index c = in-text (c .before .before .pre .1 .at)
 
-seen-index-requires : tie.Need-seen-index-requires
-seen-index-requires c κs = search needs
-
 entry-at-by-requires : tie.Need-entry-at-by-requires
 entry-at-by-requires c κs = let g = c .before .before .before .before .pre in let b = index-bounds (g .1 .at) (g .2) (g .3) (c .seen-index .ensures) in (g .0, record { frame = g .1 .frame; stored = g .1 .at .stored }, b .0, b .1)
 
 scope-or-fit-requires : tie.Need-scope-or-fit-requires
 scope-or-fit-requires c κs = let g = c .before .before .before .before .before .pre in (measurable (g .1 .at) (g .2) (g .3) (c .before .seen-index .ensures) (c .entry-at-by .ensures), g .1 .at .stored .few)
-
-go-on-requires : tie.Need-go-on-requires
-go-on-requires c κs = search needs
 
 returns : tie.Need-returns
 returns c = rw (c .go-on .ensures) (still (c .before .before .before .before .before .before .before .pre .1) (omega arith) (λ R W Q B p z o. var-goes z (c .before .before .before .before .before .before .before .pre .2) (c .before .before .before .before .before .before .before .pre .3) (c .before .before .before .seen-index .ensures) (c .before .before .entry-at-by .ensures) _ (c .before .scope-or-fit .ensures)))
@@ -35,8 +29,8 @@ var-turn-spec =
     tie.close
     (tie.spec
     element-copy-out-seen-index
-    seen-index-requires
+    (λ c κs. search needs)
     entry-at-by-requires
     scope-or-fit-requires
-    go-on-requires
+    (λ c κs. search needs)
     returns)

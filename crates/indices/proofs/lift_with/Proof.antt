@@ -34,12 +34,6 @@ slice-write-s c = omega (arith, stands-end (c .before .before .before .before .b
 advance-requires : tie.Need-advance-requires Inv-loop μ-loop
 advance-requires c κs = lifting-ready (c .before .before .before .before .loop .inv .1 _ (c .before .before .before .before .before .before .before .pre .0 .standing .stands)) (c .before .before .before .loop-test .taken)
 
-add-i : tie.Need-add-i Inv-loop μ-loop
-add-i c = search needs
-
-loop-less : tie.Need-loop-less Inv-loop μ-loop
-loop-less c = search needs
-
 loop-again : tie.Need-loop-again Inv-loop μ-loop
 loop-again c = (c .before .before .advance .ensures .same-length ∙ c .before .before .before .before .before .before .before .loop .inv .0, λ t h. lifting-next (c .before .before .before .before .before .before .before .loop .inv .1 t h) (c .before .before .before .before .before .before .loop-test .taken) (⊎-elim (λ w. terminal-stored (w .0 .taken) (w .1 .ensures) (w .2)) (λ w. operator-stored _ (w .0 .left) (w .1)) (c .before .before .before .before .if1 .came)) (c .before .before .advance .ensures))
 
@@ -63,8 +57,8 @@ lift-with-spec =
     lifted-index-requires
     slice-write-s
     advance-requires
-    add-i
-    loop-less
+    (λ c. search needs)
+    (λ c. search needs)
     loop-again
     same-length
     same-length-2

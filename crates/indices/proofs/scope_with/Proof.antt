@@ -21,20 +21,11 @@ abbrev μ-loop : tie.MeasureT-loop
 loop-holds : tie.Need-loop-holds Inv-loop μ-loop
 loop-holds c = (refl, λ t h. measuring-start _ h (c .before .before .pre .0 .short) (c .before .before .pre .1))
 
-larger-requires : tie.Need-larger-requires Inv-loop μ-loop
-larger-requires c κs = search needs
-
 shared-slice-read-advance : tie.Need-shared-slice-read-advance Inv-loop μ-loop
 shared-slice-read-advance c = omega (arith, stands-end (c .before .before .before .before .before .before .before .pre .0 .stands))
 
 advance-requires : tie.Need-advance-requires Inv-loop μ-loop
 advance-requires c κs = measuring-ready (c .before .before .before .before .loop .inv .1 _ (c .before .before .before .before .before .before .before .pre .0 .stands)) (c .before .before .before .loop-test .taken)
-
-add-i : tie.Need-add-i Inv-loop μ-loop
-add-i c = search needs
-
-loop-less : tie.Need-loop-less Inv-loop μ-loop
-loop-less c = search needs
 
 loop-again : tie.Need-loop-again Inv-loop μ-loop
 loop-again c = (c .before .before .advance .ensures .same-length ∙ c .before .before .before .before .before .before .before .loop .inv .0, λ t h. measuring-next (c .before .before .before .before .before .before .before .loop .inv .1 t h) (c .before .before .before .before .before .before .loop-test .taken) (c .before .before .before .before .before .larger .ensures) (c .before .before .advance .ensures))
@@ -52,11 +43,11 @@ scope-with-spec =
     Inv-loop
     μ-loop
     loop-holds
-    larger-requires
+    (λ c κs. search needs)
     shared-slice-read-advance
     advance-requires
-    add-i
-    loop-less
+    (λ c. search needs)
+    (λ c. search needs)
     loop-again
     same-length
     returns)
