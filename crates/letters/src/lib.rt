@@ -1,9 +1,9 @@
 // Letters: the symbols of a body at a fixed width, so that a step's place is an array index and a lift changes no length. Only this
 // crate reads and writes a body's bytes.
 ghost use mathlib.Core.Path.{_≡_};
-ghost use mathlib.Core.Logic.{_↔_};
-ghost use Prim.Native.Nat.{_%_, _<_, _≤_, max};
 ghost use mathlib.Core.Bool.{true};
+ghost use mathlib.Core.Logic.{_↔_};
+ghost use Prim.Native.Nat.{_+_, _%_, _<_, _≤_, max};
 ghost use lib.ListN.{length};
 ghost use Rattle.calculus.specs.Terms.{liftIndex};
 ghost use Rattle.code.specs.Limits.{longestTerm, mostAbstractors};
@@ -21,6 +21,9 @@ pub type Letters = [u32; LONGEST_TERM];
 pub const APPLICATOR: usize = 1022;
 
 pub const ABSTRACTOR: usize = 1023;
+
+// One of height in a letter.
+const HEIGHT: usize = 1048576;
 
 pub fn letter_of(symbol: usize, depth: usize, height: usize) -> u32
     requires { ⌜ (symbol < 1024) × (depth < 1024) × (height < 4096) ⌝ }
@@ -129,7 +132,16 @@ fn largest_byte(s: &[u8], from: usize, to: usize) -> u8
     largest
 }
 
-// As `read_with`, where no byte is an abstractor: all depths are the same, and the parts still to be read need no stack.
+// A symbol put into a letter.
+fn with_symbol(rest: usize, symbol: usize) -> u32
+    requires { ⌜ rest + symbol < 4294967296 ⌝ }
+    ensures { λ r. ⌜ r ≡ rest + symbol ⌝ }
+{
+    (rest + symbol) as u32
+}
+
+// As `read_with`, where no byte is an abstractor: all depths are the same, and the parts still to be read need no stack. `above` is the
+// next letter without its symbol, one higher, so that the last terminal leaves no height below 0.
 fn read_flat(
     s: &[u8],
     from: usize,
@@ -143,19 +155,19 @@ fn read_flat(
     requires { ⌜ Readable (now s) from to k d h 0 (now out) at × UpTo (now s) from to 0xfe ⌝ }
     ensures { λ r. ⌜ Reads (now (s .entry)) from to k d h 0 (now (out .entry)) (now (out .exit)) at true ⌝ }
 {
-    let mut count: usize = 1;
+    let mut above = d * 1024 + (h + 1) * HEIGHT;
     let mut i = from;
     let mut j = at;
     while i < to {
         let b = s[i];
         let x = index_of(b);
-        let height = h + (count - 1);
+        let here = above - HEIGHT;
         if b < 0xfe {
-            out[j] = letter_of(lifted_index(x, 0, k), d, height);
-            count -= 1;
+            out[j] = with_symbol(here, lifted_index(x, 0, k));
+            above = here;
         } else {
-            out[j] = letter_of(x + 768, d, height);
-            count += 1;
+            out[j] = with_symbol(here, x + 768);
+            above += HEIGHT;
         }
         i += 1;
         j += 1;
