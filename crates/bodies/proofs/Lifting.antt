@@ -15,7 +15,7 @@ use Rattle.code.specs.Scope.{scope}
 use Rattle.parts.specs.Parts.{part}
 use Rattle.letters.specs.Letters.{letter, letters, applicator, abstractor, symbolOf, depthOf, heightOf, Lies}
 use Rattle.letters.proofs.Letters.{letter-parts, symbol-letter, depth-letter, height-letter, lies-taken}
-use Rattle.bodies.specs.Moving.{liftedSymbol, liftedLetter, Mapped, LiftableLetter, Liftable, Lifts, DeepestIs}
+use Rattle.bodies.specs.Moving.{liftedSymbol, liftedLetter, Mapped, LiftableLetter, PartLiftable, Lifts, DeepestIs}
 use Rattle.bodies.proofs.Extents.{above, under, scope-under, first-height}
 
 -- ---- The letters of a term.
@@ -54,7 +54,7 @@ module _ (c k h low x : ℕ) (l : LiftableLetter c k h low x) where
   unfolding liftedLetter liftedSymbol letter
   lifted-raised a b = rw (lt-ltb (symbolOf x) applicator a, index-high k (depthOf x - c) (symbolOf x) b) (omega (arith, letter-parts x, l .low-enough))
 
-pub liftable-letter : {s : List ℕ} {from e c k h at low i : ℕ} → Liftable s from e c k h at → low ≡ heightOf (getD s from 0) → from ≤ i → i < e → LiftableLetter c k h low (getD s i 0)
+pub liftable-letter : {s : List ℕ} {from e c k h at low i : ℕ} → PartLiftable s from e c k h at → low ≡ heightOf (getD s from 0) → from ≤ i → i < e → LiftableLetter c k h low (getD s i 0)
 liftable-letter {i = i} g w l n =
     let v = first-height (g .lies) (omega (arith, g .few)) in
     let a = above (g .term) (omega (arith, g .few)) (g .lies) i l n in

@@ -28,7 +28,7 @@ use Rattle.bodies.specs.Ways.{Way, put, frameAt, depthAt}
 use Rattle.bodies.specs.Held.{Held, SomeHeld, InBody, FormAs, reasonNumber, SteppedAs, step-refused, step-reached, TypedAs, no-type, typed, Steps, Types}
 use Rattle.bodies.specs.Finding.{DomainLies, EntryLies, lies-single, lies-pair, Binds, BoundInside, SomeBound, Finds}
 use Rattle.bodies.specs.Moving.{Ending}
-use Rattle.bodies.specs.Putting.{SourceIs, in-frame, in-body, Puttable, Puts}
+use Rattle.bodies.specs.Putting.{SourceIs, in-frame, in-body, Puttable, PutsTerm}
 use Rattle.bodies.specs.declared.Binder.{Binder}
 use Rattle.bodies.specs.declared.Form.{Form}
 use Rattle.bodies.specs.declared.Form.the-variants.{Refused}
@@ -117,7 +117,7 @@ module _ {W : List ℕ} {f : FrameRecord} {s : List ℕ} {n p k : ℕ} (g : InBo
   puttable c = let y = g .some-held .held in let w = variable-way y (g .inside) e a b in
       record { frames = f; entries = refl; frame = g .some-held .frame; body = g .some-held .term; k = k; way = w; held = y; term = c .all y w .term; source = c .all y w .source }
 
-  pub local-put : {x : Source} {s′ : List ℕ} {r : Form} → Supplies W f s n p k x partner → Puts W (f .len) s s′ n p x r → Steps W f s s′ n (record { kind = 1; place = p }) r
+  pub local-put : {x : Source} {s′ : List ℕ} {r : Form} → Supplies W f s n p k x partner → PutsTerm W (f .len) s s′ n p x r → Steps W f s s′ n (record { kind = 1; place = p }) r
   unfolding mapOutcome
   local-put {s′ = s′} {r} c d = record { all = λ R t y. go R t y (variable-way y (g .inside) e a b); same-length = d .same-length }
     where
@@ -171,7 +171,7 @@ module _ {W : List ℕ} {f : FrameRecord} {s : List ℕ} {n k : ℕ} (g : SomeHe
   unfolding reasonNumber
   no-type-there z = record { all = λ R t y. no-type (last-tau y (sym e ∙ z)) refl; same-length = refl }
 
-  pub type-put : {x : Source} {s′ : List ℕ} {r : Form} → 1 ≤ k → Supplies W f s n (n - 1) k x ownDomain → Puts W (f .len) s s′ n (n - 1) x r → Types W f s s′ n r
+  pub type-put : {x : Source} {s′ : List ℕ} {r : Form} → 1 ≤ k → Supplies W f s n (n - 1) k x ownDomain → PutsTerm W (f .len) s s′ n (n - 1) x r → Types W f s s′ n r
   unfolding typeOfVar ownDomain
   type-put {s′ = s′} {r} l c d = record { all = λ R t y. go R t y (last-variable y e l); same-length = d .same-length }
     where

@@ -24,8 +24,8 @@ use Rattle.letters.specs.Contracts as reading
 use Rattle.letters.proofs.Letters.{first, length-letters, lies-end}
 use Rattle.bodies.specs.Ways.{Way, put, depthAt, heightAt}
 use Rattle.bodies.specs.Held.{Held, FormAs}
-use Rattle.bodies.specs.Moving.{Liftable, Lifts, SomeLies, DeepestIs}
-use Rattle.bodies.specs.Putting.{SourceIs, in-frame, in-body, Sourced, SourceWritten, Puttable, Puts}
+use Rattle.bodies.specs.Moving.{PartLiftable, Lifts, SomeLies, DeepestIs}
+use Rattle.bodies.specs.Putting.{SourceIs, in-frame, in-body, Sourced, SourceWritten, Puttable, PutsTerm}
 use Rattle.bodies.specs.declared.Source.{Source}
 use Rattle.bodies.specs.declared.Form.the-variants.{Outgrown, Length}
 use Rattle.bodies.proofs.Lifting.{lifted-lies}
@@ -103,7 +103,7 @@ module _ {w s : List ℕ} {p k d h room : ℕ} {x : Source} (g : Sourced w s p k
         few-lifted : {K : Term} (i : SourceIs w s p k d x K) → d - k + scope K + k ≤ mostAbstractors
         few-lifted i = omega (arith, shallow i, inside i .depth-is, g .deep)
 
-        pub source-liftable : Liftable s (x .start) (x .end) (d - k) k h p
+        pub source-liftable : PartLiftable s (x .start) (x .end) (d - k) k h p
         source-liftable = let i = inside (g .source) in
             record { array = g .array; low = i .low; term = g .term; lies = i .lies; few = few-lifted (g .source); high = g .high; past = i .before; fits = g .fits }
 
@@ -124,7 +124,7 @@ module _ {w : List ℕ} {len : ℕ} {s : List ℕ} {n p : ℕ} {x : Source} (g :
   unfolding size
   put-bounds = (source-end (g .source) .0, omega (arith, at .inside), omega (arith, at .inside), at .most, g .held .array, ⊎-elim (λ l. omega (arith, g .held .stored .work)) (λ l. omega (arith, at .inside, at .most)) (source-end (g .source) .1))
 
-  pub put-long : longestTerm < n - 1 + (x .end - x .start) → Puts w len s s n p x Outgrown
+  pub put-long : longestTerm < n - 1 + (x .end - x .start) → PutsTerm w len s s n p x Outgrown
   unfolding size
   put-long l = record { all = λ f o R t k way K y i c. too-long y way (lift k 0 K) (omega (arith, put-bounds, source-size i, size-lift k 0 K)); same-length = refl }
 
@@ -169,14 +169,14 @@ module _ {w : List ℕ} {len : ℕ} {s : List ℕ} {n p : ℕ} {x : Source} (g :
         same-length : length s′ ≡ length s
         same-length = o .same-length ∙ c .same-length
 
-        pub put-deep : r ≡ false → Puts w len s s′ n p x Outgrown
+        pub put-deep : r ≡ false → PutsTerm w len s s′ n p x Outgrown
         put-deep q = record { all = λ f m R t j way K y i u. go y m way i (subst (ReadAs k d h (mostAbstractors - len - d) s₁ s′ p K) q (written y way i)); same-length = same-length }
           where
             go : {f : FrameRecord} {R : Frame} {t : Term} {j : ℕ} {K : Term} (y : Held w f s n R t) → f .len ≡ len → (way : Way t p (var j)) → SourceIs w s p j (depthAt 0 way) x K → ReadAs k d h (mostAbstractors - len - d) s₁ s′ p K false
                 → FormAs w f s′ R (put way (lift j 0 K)) Outgrown
             go {j = j} {K} y m way i (reading.too-deep z) = too-deep y way (lift j 0 K) (omega (arith, scope-lift j 0 K, deep-is y way, stored-depth (y .stored), put-room))
 
-        pub put-done : r ≡ true → Puts w len s s′ n p x (Length (n - 1 + (x .end - x .start)))
+        pub put-done : r ≡ true → PutsTerm w len s s′ n p x (Length (n - 1 + (x .end - x .start)))
         unfolding size
         put-done q = record { all = λ f o R t j way K y i u. go y o way i u (subst (ReadAs k d h (mostAbstractors - len - d) s₁ s′ p K) q (written y way i)); same-length = same-length }
           where

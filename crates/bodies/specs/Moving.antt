@@ -41,7 +41,7 @@ pub record LiftableLetter (c k h low x : ℕ) : Type 0 where
   pub high : heightOf x + h < low + heights
 
 -- A term that lies in s, where its first letter has depth c; lifted by k and with height h it has room from `at` on, past its end.
-pub record Liftable (s : List ℕ) (from e c k h at : ℕ) : Type 0 where
+pub record PartLiftable (s : List ℕ) (from e c k h at : ℕ) : Type 0 where
   pub array : length s ≡ longestTerm
   pub low : ℕ
   pub term : Term

@@ -51,7 +51,7 @@ pub record Puttable (w : List ℕ) (len : ℕ) (s : List ℕ) (n p : ℕ) (x : S
   pub source : SourceIs w s p k (depthAt 0 way) x term
 
 -- The body with that term in its place, which is closed, is over the limits, or s′ holds it.
-pub record Puts (w : List ℕ) (len : ℕ) (s s′ : List ℕ) (n p : ℕ) (x : Source) (r : Form) : Type 0 where
+pub record PutsTerm (w : List ℕ) (len : ℕ) (s s′ : List ℕ) (n p : ℕ) (x : Source) (r : Form) : Type 0 where
   pub all : (f : FrameRecord) → f .len ≡ len → (R : Frame) (t : Term) (k : ℕ) (way : Way t p (var k)) (K : Term) → Held w f s n R t → SourceIs w s p k (depthAt 0 way) x K
       → Closed (depth R) (put way (lift k 0 K)) → FormAs w f s′ R (put way (lift k 0 K)) r
   pub same-length : length s′ ≡ length s

@@ -9,8 +9,8 @@ ghost use Rattle.letters.specs.Letters.{depthOf};
 ghost use Rattle.parts.specs.Parts.{part, Copied};
 ghost use Rattle.bodies.specs.Held.{SomeHeld, InBody, InSomeBody, Steps, Types};
 ghost use Rattle.bodies.specs.Finding.{Findable, Found, Matable, Mated, SomeBound, Finds};
-ghost use Rattle.bodies.specs.Moving.{Mapped, Ending, LiftableLetter, liftedLetter, Liftable, Lifts, SomeLies, DeepestIs, loweredLetter, useOf, usesOf, InScope};
-ghost use Rattle.bodies.specs.Putting.{Sourced, SourceWritten, Puttable, Puts};
+ghost use Rattle.bodies.specs.Moving.{Mapped, Ending, LiftableLetter, liftedLetter, PartLiftable, Lifts, SomeLies, DeepestIs, loweredLetter, useOf, usesOf, InScope};
+ghost use Rattle.bodies.specs.Putting.{Sourced, SourceWritten, Puttable, PutsTerm};
 use code::numbers::LONGEST_TERM;
 use code::numbers::MOST_ABSTRACTORS;
 use frames::FrameRecord;
@@ -206,7 +206,7 @@ fn lifted_letter(x: u32, c: u32, k: u32, h: u32, low: u32) -> u32
 // The term that lies in s from `from` up to `to`, where its first letter has depth c, goes lifted by k to `at`, past it, where its first
 // letter has height h.
 fn lift_part(s: &mut Letters, from: usize, to: usize, c: u32, k: u32, h: u32, at: usize)
-    requires { ⌜ Liftable (now s) from to c k h at ⌝ }
+    requires { ⌜ PartLiftable (now s) from to c k h at ⌝ }
     ensures { λ r. ⌜ Lifts (now (s .entry)) (now (s .exit)) from to c k h at ⌝ }
 {
     let low = narrow(height_of(s[from]));
@@ -325,7 +325,7 @@ fn write_source(
 // The term that x says, lifted, takes the place of the variable at p of the body in the first n letters, after a frame of len entries.
 fn put(s: &mut Letters, n: usize, work: &Work, len: usize, p: usize, x: Source) -> Form
     requires { ⌜ Puttable (now work) len (now s) n p x ⌝ }
-    ensures { λ r. ⌜ Puts (now (work .entry)) len (now (s .entry)) (now (s .exit)) n p x r ⌝ }
+    ensures { λ r. ⌜ PutsTerm (now (work .entry)) len (now (s .entry)) (now (s .exit)) n p x r ⌝ }
 {
     let size = x.end - x.start;
     let m = n - 1 + size;

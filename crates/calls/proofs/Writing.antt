@@ -22,7 +22,7 @@ use Rattle.code.proofs.Parts.{stands-self}
 use Rattle.frames.specs.Stored.{EmptyRecord}
 use Rattle.frames.specs.declared.FrameRecord.{FrameRecord}
 use Rattle.letters.specs.Letters.{letters, Lies}
-use Rattle.letters.specs.Contracts.{Readable, ReadAs, read-all, too-deep, Reads, Writable, Writes}
+use Rattle.letters.specs.Contracts.{Readable, ReadAs, read-all, too-deep, Reads, BytesWritable, Writes}
 use Rattle.letters.proofs.Letters.{lies-stored}
 use Rattle.bodies.specs.Held.{Held, SomeHeld, FormAs, form-outgrown, form-held, SteppedAs, Steps, TypedAs, Types}
 use Rattle.bodies.specs.Held as bodies
@@ -32,7 +32,7 @@ use Rattle.examine.specs.Inspect.{refused, accepted, examined, termAnswer}
 use Rattle.examine.specs.declared.TermAnswer.{TermAnswer}
 use Rattle.examine.specs.Claims.{WellFormed}
 use Rattle.examine.proofs.Laws.{examining-holds, number-zero}
-use Rattle.calls.specs.Answers.{Written, nothing, answer, handed, written, typeWritten, typeAnswerOf, typeAnswer, stepWritten, stepAnswerOf, stepAnswer, AcceptedTerm, Opened, InLetters}
+use Rattle.calls.specs.Answers.{Written, nothing, answer, handed, written, typeWritten, typeAnswerOf, typeAnswer, stepWritten, stepAnswerOf, stepAnswer, AcceptedTerm, OpenedBody, InLetters}
 
 -- ---- A term that is accepted, as letters.
 pub accepted-term : (s : List ℕ) {r : TermAnswer} → r ≡ termAnswer s → r .number ≡ 0 → AcceptedTerm s
@@ -70,7 +70,7 @@ module _ {s b : List ℕ} (y : Bytes s) (m : length b ≡ longestTerm) where
       subst (λ n. Lies b′ 0 n 0 0 t) (omega (arith, whole-size y a)) (lies-stored b 0 0 0 (encodes y a .coded) (omega (arith, a .short)) (e ∙ ap (λ u. sets b 0 (letters 0 0 u)) (lift-zero 0 t)))
   body-lies a (too-deep l) = absurd (omega (arith, a .shallow))
 
-  pub body-opened : {b′ : List ℕ} {r : Bool} → Reads s 0 (length s) 0 0 0 mostAbstractors b b′ 0 r → Opened s b′
+  pub body-opened : {b′ : List ℕ} {r : Bool} → Reads s 0 (length s) 0 0 0 mostAbstractors b b′ 0 r → OpenedBody s b′
   unfolding depth
   body-opened d =
       record {
@@ -86,10 +86,10 @@ module _ {s b : List ℕ} (y : Bytes s) (m : length b ≡ longestTerm) where
             };
       }
 
-opened : {s b w : List ℕ} {f : FrameRecord} (a : AcceptedTerm s) → Opened s b → EmptyRecord f → length w ≡ longestState → Held w f b (length s) ε (a .term)
+opened : {s b w : List ℕ} {f : FrameRecord} (a : AcceptedTerm s) → OpenedBody s b → EmptyRecord f → length w ≡ longestState → Held w f b (length s) ε (a .term)
 opened {w = w} a k g l = k .body (a .term) (a .accepts) (g .holds w l)
 
-pub some-held : {s b w : List ℕ} {f : FrameRecord} → AcceptedTerm s → Opened s b → EmptyRecord f → length w ≡ longestState → SomeHeld w f b (length s)
+pub some-held : {s b w : List ℕ} {f : FrameRecord} → AcceptedTerm s → OpenedBody s b → EmptyRecord f → length w ≡ longestState → SomeHeld w f b (length s)
 some-held a k g l = record { frame = ε; term = a .term; held = opened a k g l }
 
 -- ---- Handing over.
@@ -97,7 +97,7 @@ module _ {b : List ℕ} {n : ℕ} {t : Term} (h : InLetters b n t) (out : List �
   length-lies : length (encode t) ≡ n
   length-lies = omega (arith, length-encode t, h .lies .place)
 
-  pub writable : n ≤ length out → Writable b n out
+  pub writable : n ≤ length out → BytesWritable b n out
   writable l = record { term = t; lies = h .lies; array = h .array; fits = l }
 
   pub too-short : length out < n → answer 14 0 0 out ≡ handed out (encode t)
@@ -150,7 +150,7 @@ pub step-refused : (s : List ℕ) (x : Step) (out : List ℕ) {n p : ℕ} → ex
 unfolding stepAnswer stepAnswerOf
 step-refused s x out h = sym (ap (stepAnswerOf out x) h)
 
-module _ {s w b b′ : List ℕ} {f : FrameRecord} {r : Form} (a : AcceptedTerm s) (k : Opened s b) (g : EmptyRecord f) (l : length w ≡ longestState) (out : List ℕ) where
+module _ {s w b b′ : List ℕ} {f : FrameRecord} {r : Form} (a : AcceptedTerm s) (k : OpenedBody s b) (g : EmptyRecord f) (l : length w ≡ longestState) (out : List ℕ) where
   pub type-answers : Types w f b b′ (length s) r → Answers b′ out (nothing out) (typeAnswer s out) r
   unfolding typeAnswer typeAnswerOf typeWritten
   type-answers d = go (d .all ε (a .term) (opened a k g l))

@@ -88,7 +88,7 @@ pub record AcceptedTerm (s : List ℕ) : Type 0 where
   pub accepts : examined s ≡ accepted term
 
 -- Letters that hold, as a body after the empty frame, the term that s is.
-pub record Opened (s b : List ℕ) : Type 0 where
+pub record OpenedBody (s b : List ℕ) : Type 0 where
   pub body : {w : List ℕ} {f : FrameRecord} (t : Term) → examined s ≡ accepted t → Stored w f ε → Held w f b (length s) ε t
 
 -- The term t lies in n letters at the start of b.

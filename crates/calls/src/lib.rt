@@ -5,7 +5,7 @@ ghost use Rattle.calculus.specs.Terms.{Term};
 ghost use Rattle.code.specs.Limits.{longestTerm};
 ghost use Rattle.code.specs.Code.{encode};
 ghost use Rattle.files.specs.File.{fileAnswer};
-ghost use Rattle.calls.specs.Answers.{FileAnswered, handed, typeAnswer, typeSays, stepAnswer, stepSays, AcceptedTerm, Opened, InLetters};
+ghost use Rattle.calls.specs.Answers.{FileAnswered, handed, typeAnswer, typeSays, stepAnswer, stepSays, AcceptedTerm, OpenedBody, InLetters};
 ghost use Rattle.calls.specs.Claims.{Promises};
 use bodies::Form;
 use code::numbers::ACCEPTED;
@@ -77,7 +77,7 @@ fn deliver(body: &Letters, n: usize, out: &mut [u8]) -> StepAnswer
 // A term that is accepted, as letters. It is within the limits, so that reading it never ends early.
 fn open_body(s: &[u8], body: &mut Letters)
     requires { ⌜ AcceptedTerm (now s) × (length (now body) ≡ longestTerm) ⌝ }
-    ensures { λ r. ⌜ Opened (now (s .entry)) (now (body .exit)) ⌝ }
+    ensures { λ r. ⌜ OpenedBody (now (s .entry)) (now (body .exit)) ⌝ }
 {
     let n = s.len();
     letters::read(s, 0, n, 0, 0, 0, MOST_ABSTRACTORS, body, 0);

@@ -37,7 +37,7 @@ pub record UpTo (s : List ℕ) (from e b : ℕ) : Type 0 where
   pub bound : (i : ℕ) → from ≤ i → i < e → getD s i 0 ≤ b
 
 -- Some term lies at the start of s, in n letters, and there is room for its bytes.
-pub record Writable (s : List ℕ) (n : ℕ) (out : List ℕ) : Type 0 where
+pub record BytesWritable (s : List ℕ) (n : ℕ) (out : List ℕ) : Type 0 where
   pub term : Term
   pub lies : Lies s 0 n 0 0 term
   pub array : length s ≡ longestTerm

@@ -10,7 +10,7 @@ ghost use Rattle.code.specs.Limits.{longestTerm, mostAbstractors};
 ghost use Rattle.indices.specs.Stack.{Roomy};
 ghost use Rattle.parts.specs.Parts.{Compared};
 ghost use Rattle.letters.specs.Letters.{letter, symbolOf, depthOf, heightOf};
-ghost use Rattle.letters.specs.Contracts.{UpTo, Readable, Reads, Writable, Writes};
+ghost use Rattle.letters.specs.Contracts.{UpTo, Readable, Reads, BytesWritable, Writes};
 use code::numbers::LONGEST_TERM;
 use indices::advance;
 
@@ -212,7 +212,7 @@ fn byte_of(x: u32) -> u8
 
 // The term that lies in n letters at the start of s, as bytes at the start of `out`.
 pub fn write(s: &Letters, n: usize, out: &mut [u8])
-    requires { ⌜ Writable (now s) n (now out) ⌝ }
+    requires { ⌜ BytesWritable (now s) n (now out) ⌝ }
     ensures { λ r. ⌜ Writes (now (s .entry)) n (now (out .entry)) (now (out .exit)) ⌝ }
 {
     let mut i: usize = 0;
