@@ -9,10 +9,10 @@ use Rattle.fields.proofs.Groups.{if-accepted, if-refused, accepts}
 use Rattle.examine.specs.Inspect.{Examined, examined, termAnswerOf, termAnswer}
 use Rattle.examine.specs.declared.TermAnswer.{TermAnswer}
 use Rattle.examine.proofs.Laws.{refused-answer, number-zero}
-use Rattle.files.specs.File.{OpenedBody, refused, opened, openTerm, openFields, openFile, fileAnswerOf, fileAnswer}
+use Rattle.files.specs.File.{Opened, refused, opened, openTerm, openFields, openFile, fileAnswerOf, fileAnswer}
 use Rattle.calls.specs.Answers.{FileAnswered}
 
-answered : (s : List ℕ) (o : OpenedBody) {n p : ℕ} {part : List ℕ} → openFile s ≡ o → FileAnswered n p part (fileAnswerOf s o) → FileAnswered n p part (fileAnswer s)
+answered : (s : List ℕ) (o : Opened) {n p : ℕ} {part : List ℕ} → openFile s ≡ o → FileAnswered n p part (fileAnswerOf s o) → FileAnswered n p part (fileAnswer s)
 unfolding fileAnswer
 answered s o h a = rw h a
 
