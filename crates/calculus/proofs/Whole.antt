@@ -303,7 +303,7 @@ same-kind : (n : ℕ) → (n ≡ 3 → ⊥) → kindIn full n ≡ kindIn base n
 unfolding kindIn
 same-kind n h = rw (ne-eqb n 3 h) refl
 
-same-step : (R : Frame) (s : Step) (t : Term) → (s .kind ≡ 3 → ⊥) → stepBy base R s t ≡ step R s t
+pub same-step : (R : Frame) (s : Step) (t : Term) → (s .kind ≡ 3 → ⊥) → stepBy base R s t ≡ step R s t
 unfolding stepBy
 same-step R s t h = ap (λ κ. stepOf κ R t (s .place)) (sym (same-kind (s .kind) h))
 

@@ -24,7 +24,7 @@ use Rattle.verdict.specs.Verdict.{Progress, Run, passed, stopped, checkTerm}
 use Rattle.verdict.proofs.Promises.{passing}
 use Rattle.files.specs.File.{Opened, refused, opened, openTerm, openFields, openFile}
 use Rattle.files.specs.Check as files
-use Rattle.files.specs.Check.{groupsOf, leftOver, checkAnswerOf, checkOpened, checkFile}
+use Rattle.files.specs.Check.{groupsOf, leftOver, checkAnswerOf, checkOpenedBy, checkOpened, checkFileBy, checkFile}
 use Rattle.files.proofs.Answers.{term-bytes, says as answer-says}
 use Rattle.walk.specs.Contracts.{Answers, answer-passed, answer-stopped, Walkable, WalkAnswer}
 use Rattle.checker.specs.Answer.{CheckedAs, Checked}
@@ -42,12 +42,12 @@ checked {s} b a = record {
 
 -- an opened file's answer
 from-opened : {r : CheckAnswer} (s : List ℕ) {o : Opened} → openFile s ≡ o → CheckedAs r (checkOpened o) → CheckedAs r (checkFile s)
-unfolding checkFile
+unfolding checkFileBy
 from-opened s h c = rw h c
 
 module _ (s : List ℕ) {r : Layout} (is : r ≡ layoutOf (readFile s)) where
   pub fields-refused : (r .number ≡ 0 → ⊥) → CheckedAs (record { number = r .number; place = r .place; comparisons = 0; degree = 0 }) (checkFile s)
-  unfolding openFile openFields checkOpened
+  unfolding openFile openFields checkOpenedBy
   fields-refused z = from-opened s {o = refused (r .number) (r .place)} (ap (openFields s) (if-refused s is z .0)) (record { number-is = refl; place-is = refl; comparisons-is = refl; degree-is = refl })
 
   module _ (zero : r .number ≡ 0) (b : Bytes s) {a : TermAnswer} (term-is : a ≡ termAnswer (termBytes s (r .end))) where
@@ -59,7 +59,7 @@ module _ (s : List ℕ) {r : Layout} (is : r ≡ layoutOf (readFile s)) where
     open-term = ap (openFields s) (accepts (layout .is))
 
     pub term-refused : (a .number ≡ 0 → ⊥) → CheckedAs (record { number = a .number; place = a .place; comparisons = 0; degree = 0 }) (checkFile s)
-    unfolding openTerm checkOpened
+    unfolding openTerm checkOpenedBy
     term-refused z = from-opened s {o = refused (a .number) (a .place)} (open-term ∙ ap (openTerm (r .end) (layout .list)) (refused-answer (termBytes s (r .end)) term-is z .0))
         (record { number-is = refl; place-is = refl; comparisons-is = refl; degree-is = refl })
 
@@ -87,7 +87,7 @@ module _ (s : List ℕ) {r : Layout} (is : r ≡ layoutOf (readFile s)) where
       open-file = open-term ∙ ap (openTerm (r .end) (layout .list)) (examining-holds .accepts (termBytes s (r .end)) (found .term) (term-bytes s (r .end) b) .1 (found .accepts))
 
       run-as : {x : CheckAnswer} (y : Run) → checkTerm (found .term) (groupsOf (layout .list)) ≡ y → CheckedAs x (checkAnswerOf (degree ε (found .term)) (layout .list) y) → CheckedAs x (checkFile s)
-      unfolding checkOpened
+      unfolding checkOpenedBy
       run-as y h c = from-opened s open-file (rw h c)
 
       module _ {w : Walked} (walks : WalkAnswer s (termBytes s (r .end)) (r .end) w) where

@@ -13,7 +13,7 @@ use lib.ListN.{length, drop, length-append, length-map, length-drop, drop-of-len
 use Rattle.calculus.specs.Terms.{Term, applicators, size, Closed}
 use Rattle.calculus.specs.Frames.{Frame, ε, depth}
 use Rattle.calculus.specs.Types.{degree}
-use Rattle.calculus.specs.Steps.{Step, Kind, kindOf, reached, stepOf, step}
+use Rattle.calculus.specs.Steps.{Step, Kind, base, full, kindIn, reached, stepOf, stepBy, step}
 use Rattle.calculus.specs.Rules.{Group, own, Next, onePassNext, Holds, nothing-left, met, by-rule, OnePass, groups, correct-empty}
 use Rattle.calculus.proofs.Lift.{lo, hi, cmp}
 use Rattle.calculus.proofs.Weaken.{refused-reached}
@@ -21,6 +21,7 @@ use Rattle.calculus.proofs.Places.{step-past}
 use Rattle.calculus.proofs.Agree.{plain-of-one-pass, length-groups}
 use Rattle.calculus.proofs.Closed.{plain-closed}
 use Rattle.calculus.proofs.Promises.{demanding}
+use Rattle.calculus.proofs.Whole.{readings}
 use Rattle.code.specs.Limits.{longestFile, longestTerm, longestState, mostAbstractors}
 use Rattle.code.specs.Code.{Bytes, encode}
 use Rattle.code.specs.Scope.{scope}
@@ -39,10 +40,11 @@ use Rattle.verdict.specs.Bounds.{bodyFits, stateFits, stateScope, stateSize, fr
 use Rattle.verdict.specs.Verdict.{Progress, Run, passed, stopped, checkTerm, number, Ground}
 use Rattle.verdict.specs.Claims.{StateFits, FormsFit, no-form, next-form, AllFit, progressOf}
 use Rattle.verdict.proofs.Runs.{cond-both}
+use Rattle.verdict.proofs.Former.{former-runs}
 use Rattle.verdict.proofs.Promises.{passing, stopping}
 use Rattle.files.specs.File.{Opened, refused, opened, openTerm, openFields, openFile}
-use Rattle.files.specs.Check.{CheckAnswer, groupsOf, leftOver, checkAnswerOf, checkOpened, checkFile}
-use Rattle.files.specs.Claims.{Accepted, Refused, before-the-walk, later, WithinLimits, Accepting, Refusing}
+use Rattle.files.specs.Check.{CheckAnswer, groupsOf, leftOver, checkAnswerOf, checkOpenedBy, checkFileBy, checkFile}
+use Rattle.files.specs.Claims.{Accepted, Refused, before-the-walk, later, WithinLimits, Accepting, Refusing, WithoutWhole, FormerFiles}
 
 -- WHAT OPENS
 opened-inj-term : {t u : Term} {e f : ℕ} {gs hs : List GroupAt} → opened t e gs ≡ opened u f hs → (t ≡ u) × (e ≡ f) × (gs ≡ hs)
@@ -159,10 +161,10 @@ module _ (s : List ℕ) (t : Term) (e : ℕ) (gs : List GroupAt) (o : Opens s t 
       go (stopped g q) h m = let n = stopping .numbers t (groupsOf gs) g q closed h in (λ z. absurd (omega arith), λ k. later t (groupsOf gs) holds-just closed (n .0) (omega arith) (m .0) (m .1) refl)
 
 pub says : (s : List ℕ) → Bytes s → Says s (checkFile s)
-unfolding checkFile checkOpened
+unfolding checkFileBy checkOpenedBy
 says s b = go (openFile s) refl
   where
-    go : (o : Opened) → openFile s ≡ o → Says s (checkOpened o)
+    go : (o : Opened) → openFile s ≡ o → Says s (checkOpenedBy full o)
     go (refused n p) h = let m = before-numbers s h in (λ z. absurd (omega arith), λ k. before-the-walk (m .0) (m .1) refl refl)
     go (opened t e gs) h = run-says s t e gs (opens s t e gs h) b (checkTerm t (groupsOf gs)) refl
 
@@ -198,7 +200,7 @@ all-answer n m d gs h q = ap (leftOver n d) (drop-of-length-le gs h) ∙ ap (λ 
 
 accepted-file : (t : Term) (d : OnePass (own ε [] t)) → WithinLimits t d
     → checkFile (writeFile (encode t) (groups d)) ≡ record { number = 0; place = 0; comparisons = applicators t; degree = degree ε t }
-unfolding checkFile checkOpened checkAnswerOf
+unfolding checkFileBy checkOpenedBy checkAnswerOf
 accepted-file t d w =
     let e = 3 + length (encode t) in
     let gs = groupsPlaced e (groups d) in
@@ -206,26 +208,26 @@ accepted-file t d w =
     let same : groupsOf gs ≡ groups d = same-groups e (groups d) in
     let h : checkTerm t (groupsOf gs) ≡ passed (r .0) = ap (checkTerm t) (same ∙ sym (append-nil (groups d))) ∙ r .1 in
     let many = length-map gs (λ (g : GroupAt). g .group) in
-    ap checkOpened (written-opens t d (w .states-and-forms .first) (w .term) (w .file))
+    ap (checkOpenedBy full) (written-opens t d (w .states-and-forms .first) (w .term) (w .file))
     ∙ ap (checkAnswerOf (degree ε t) gs) h
     ∙ all-answer (r .0 .comparisons) (applicators t) (degree ε t) gs (omega (arith, r .3, many, ap length same)) (r .3 ∙ length-groups ε [] t d ∙ zero-add (applicators t))
 
 -- a step that is not refused has one of the known kinds, and its place is in the body
-known-kind : (n : ℕ) → 256 ≤ n → kindOf n ≡ none
-unfolding kindOf
-known-kind n h = rw (ne-eqb n 1 (λ e. omega arith), ne-eqb n 2 (λ e. omega arith))
+known-kind : (n : ℕ) → 256 ≤ n → kindIn full n ≡ none
+unfolding kindIn
+known-kind n h = rw (ne-eqb n 1 (λ e. omega arith), ne-eqb n 2 (λ e. omega arith), ne-eqb n 3 (λ e. omega arith))
 
 step-kind : (R : Frame) (s : Step) (t : Term) {u : Term} → step R s t ≡ reached u → s .kind < 256
-unfolding step stepOf
+unfolding stepBy stepOf
 step-kind R s t e = elim (cmp 256 (s .kind)) [
   | lo h ↦ refused-reached (rw (known-kind (s .kind) h) at e)
   | hi h ↦ h
 ]
 
 step-place : (R : Frame) (s : Step) (t : Term) {u : Term} → step R s t ≡ reached u → s .place < size t
-unfolding step stepOf
+unfolding stepBy stepOf
 step-place R s t e = elim (cmp (size t) (s .place)) [
-  | lo h ↦ go (kindOf (s .kind)) h e
+  | lo h ↦ go (kindIn full (s .kind)) h e
   | hi h ↦ h
 ]
   where
@@ -263,3 +265,15 @@ accepting = record { only = λ s b. says s b .0; all = all }
 
 pub refusing : Refusing
 refusing = record { otherwise = λ s b. says s b .1 }
+
+-- WITHOUT KIND 3 the answer is that of the check with kinds 1 and 2
+as-before : (s : List ℕ) → WithoutWhole s → checkFileBy base s ≡ checkFile s
+unfolding checkFileBy checkOpenedBy
+as-before s w = go (openFile s) refl
+  where
+    go : (o : Opened) → openFile s ≡ o → checkOpenedBy base o ≡ checkOpenedBy full o
+    go (refused n p) h = refl
+    go (opened t e gs) h = ap (checkAnswerOf (degree ε t) gs) (former-runs .as-before t (groupsOf gs) (w .groups t e gs h))
+
+pub former-files : FormerFiles
+former-files = record { as-before = as-before; correct-before = λ s c d a. (readings .one-pass (own ε [] (a .term)) .1 (a .one-pass), readings .plain (own ε [] (a .term)) .1 (a .plain)) }

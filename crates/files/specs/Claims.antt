@@ -7,14 +7,18 @@ use lib.ListN.{length}
 use Rattle.calculus.specs.Terms.{Term, applicators, size, Closed}
 use Rattle.calculus.specs.Frames.{ε}
 use Rattle.calculus.specs.Types.{degree}
-use Rattle.calculus.specs.Rules.{Group, own, Comparison, plainNext, Plain, OnePass, groups}
+use Rattle.calculus.specs.Steps.{base}
+use Rattle.calculus.specs.Rules.{Group, own, Comparison, plainNext, PlainBy, Plain, OnePassBy, OnePass, groups}
+use Rattle.calculus.specs.Whole.{NoWholes}
 use Rattle.calculus.specs.Walks.{AllMet, End, WalkFrom}
 use Rattle.code.specs.Limits.{longestFile, longestTerm}
 use Rattle.code.specs.Refusals.{accepted, cutShort, tooManyInScope, noType, groupsLeft}
 use Rattle.code.specs.Code.{Bytes, encode}
+use Rattle.fields.specs.Fields.{GroupAt}
 use Rattle.fields.specs.Files.{writeFile}
 use Rattle.verdict.specs.Claims.{Within}
-use Rattle.files.specs.Check.{checkFile}
+use Rattle.files.specs.File.{opened, openFile}
+use Rattle.files.specs.Check.{groupsOf, checkFileBy, checkFile}
 
 -- What it is for the file s to be accepted with so many comparisons and that degree: it holds a term and groups, and nothing else.
 pub record Accepted (s : List ℕ) (comparisons degree-given : ℕ) : Type 0 where
@@ -58,3 +62,12 @@ pub record Accepting : Type 0 where
 -- the comparisons are at most the applicators and at most the groups.
 pub record Refusing : Type 0 where
   pub otherwise : (s : List ℕ) → Bytes s → (checkFile s .number ≡ accepted → ⊥) → Refused s (checkFile s .number) (checkFile s .comparisons) (checkFile s .degree)
+
+-- Request (a). No group of the file has a step of kind 3.
+pub record WithoutWhole (s : List ℕ) : Type 0 where
+  pub groups : (t : Term) (e : ℕ) (gs : List GroupAt) → openFile s ≡ opened t e gs → NoWholes (groupsOf gs)
+
+-- Then its answer is that of the check with kinds 1 and 2. And whatever the file, the term of an accepted one is correct by kinds 1 and 2.
+pub record FormerFiles : Type 0 where
+  pub as-before : (s : List ℕ) → WithoutWhole s → checkFileBy base s ≡ checkFile s
+  pub correct-before : (s : List ℕ) (c d : ℕ) (a : Accepted s c d) → OnePassBy base (own ε [] (a .term)) × PlainBy base (own ε [] (a .term))

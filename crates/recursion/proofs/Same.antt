@@ -19,7 +19,7 @@ use Rattle.calculus.proofs.Degree.{one-lower}
 use Rattle.calculus.proofs.Agree.{length-liftAll}
 use Rattle.code.specs.Limits.{longestState, mostAbstractors}
 use Rattle.verdict.specs.Bounds.{stateFits, bodyFits, stateSize, stateScope}
-use Rattle.verdict.specs.Verdict.{Item, state-at, same-at, placed, groundOf, left-side, right-side, bodies-differ, Progress, turned, completed, Run, passed, stopped, andThen, OtherSide, right-next, left-reached, sideOf, on-step, done, identical, formsMeet, sideFrom, withGroup, withType, toTurn, stepped, turn, finish, checkTerm}
+use Rattle.verdict.specs.Verdict.{Item, state-at, same-at, placed, groundOf, left-side, right-side, bodies-differ, Progress, turned, completed, Run, passed, stopped, andThen, OtherSide, right-next, left-reached, sideOf, on-step, done, identical, formsMeet, sideFrom, withGroup, withType, toTurn, stepped, turnBy, turn, finish, checkTermBy, checkTerm}
 use Rattle.verdict.specs.Claims.{StateFits, follow}
 use Rattle.recursion.specs.Claims.{Recurring}
 use Rattle.recursion.specs.Recursion.{Waiting, termsOf, places, liftWaiting, Replayed, outgrown-at, afterStep, replayFrom, oneSide, completedWith, compareWith, nextGroup, typedBy, compareNext, tested, atTau, atVar, copiedRule, enough, copiedFrom, ownFrom, recursive}
@@ -66,7 +66,7 @@ module _ (place : ℕ) (R : Frame) (o : OtherSide) (after : Term → Progress �
 
   side-same : (n : ℕ) (ss : List Step) (t : Term) (p : Progress) (many : ℕ) → many ≡ n + length ss
       → ((m : ℕ) (u : Term) → (k : ℕ) × Leads k (sideFrom place R o m [] u [] (toTurn []) (turned m p)) (done (after u (turned m p)))) → SideSame n ss t p (replayFrom R n ss t) many
-  unfolding sideFrom oneSide replayFrom afterStep turn stepped
+  unfolding sideFrom oneSide replayFrom afterStep turnBy stepped
   side-same n [] t p many m base = let e : many ≡ n = omega arith in rw e (base n t)
   side-same n (s ∷ ss) t p many m base = go (step R s t) refl (λ u. side-same (suc n) ss u p many (omega arith) base)
     where
@@ -269,7 +269,7 @@ own-same place R (w ∷ W) (abs U B) p = tested-same place (places (w ∷ W)) (o
     ∙ sym (running .in-parts (state-at (suc place) [] (own R [] U) ∷ []) _ (turned 1 p))))
 
 same-answer : (t : Term) (gs : List Group) → recursive t gs ≡ checkTerm t gs
-unfolding recursive checkTerm places termsOf
+unfolding recursive checkTermBy places termsOf
 same-answer t gs = own-same 0 ε [] t _
 
 pub recurring : Recurring

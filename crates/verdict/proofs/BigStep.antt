@@ -11,8 +11,8 @@ use Rattle.calculus.specs.Rules.{State, own, copied, compare, Question, holds, 
 use Rattle.calculus.specs.Walks.{copiedStates, ownStates, statesOf}
 use Rattle.calculus.proofs.Demand.{counts, fewer}
 use Rattle.verdict.specs.Bounds.{stateFits}
-use Rattle.verdict.specs.Verdict.{Item, state-at, same-at, placed, Ground, state-outgrown, groundOf, Progress, turned, Run, passed, stopped, on-state, done, toTurn, replaced, turn}
-use Rattle.verdict.specs.Verdict.{states, steps, finish}
+use Rattle.verdict.specs.Verdict.{Item, state-at, same-at, placed, Ground, state-outgrown, groundOf, Progress, turned, Run, passed, stopped, on-state, done, toTurn, replaced, turnBy, turn}
+use Rattle.verdict.specs.Verdict.{states, steps, finishBy, finish}
 use Rattle.verdict.specs.Claims.{StateFits}
 use Rattle.verdict.proofs.Turns.{Leads, here, turn-to, leads-then, run-leads, Meets, Refuses, Compared, meets, refuses, comparing}
 
@@ -28,7 +28,7 @@ pub data BigStep : ℕ → List Item → Progress → Run → Type 0 where
 
 -- THE MACHINE makes it
 pub big-leads : {k : ℕ} {is : List Item} {p : Progress} {x : Run} → BigStep k is p x → Leads k (toTurn is p) (done x)
-unfolding toTurn turn replaced
+unfolding toTurn turnBy replaced
 big-leads big-end = here
 big-leads (big-outgrown {i} {ws} {s} {rest} {p} h) = turn-to (on-state i ws s rest) p (rw h) here
 big-leads (big-wanting {i} {ws} {s} {rest = rest} {p = p} h e) = turn-to (on-state i ws s rest) p (rw (h, e)) here
@@ -100,7 +100,7 @@ ran (suc n) is p h = ran-on (suc n) (λ bs q k. ran n bs q (omega arith)) is p h
 
 -- THE CHECK is it
 pub finish-big : (is : List Item) (p : Progress) → (k : ℕ) × BigStep k is p (finish is p) × (k ≤ states is + steps (p .left))
-unfolding finish
+unfolding finishBy
 finish-big is p =
     let r = ran (states is) is p (omega arith) in
     (r .many, rw (run-leads (states is + steps (p .left)) (big-leads (r .big)) (r .few)) (r .big), r .few)

@@ -11,7 +11,7 @@ use Rattle.calculus.specs.Frames.{Frame, _▹_, single, pair}
 use Rattle.calculus.specs.Rules.{Group, liftAll, State, own, Next, asks, stops, onePassNext}
 use Rattle.calculus.specs.Walks.{ownStates, frameStates, statesOf}
 use Rattle.calculus.proofs.Agree.{length-liftAll}
-use Rattle.verdict.specs.Verdict.{Item, state-at, same-at, last, placed, Progress, turned, Run, andThen, Status, done, states, steps, finish, asked, begun, start, checkTerm}
+use Rattle.verdict.specs.Verdict.{Item, state-at, same-at, last, placed, Progress, turned, Run, andThen, Status, done, states, steps, finish, asked, begun, start, checkTermBy, checkTerm}
 use Rattle.verdict.specs.Claims.{StateFits, follow, Running, afterTurns, progressOf, Turning}
 use Rattle.verdict.proofs.Turns.{Leads, here, by-turn}
 use Rattle.verdict.proofs.BigStep.{BigStep, big-end, big-outgrown, big-wanting, big-asks, big-met, big-refused, big-leads, finish-big, finish-is}
@@ -119,7 +119,7 @@ leads-before zero (by-turn d) h e = let z : _≡_ {A = ℕ} 0 1 = cc in omega ar
 leads-before (suc n) (by-turn d) h e = leads-before n d (omega arith) e
 
 whole : (t : Term) (gs : List Group) → (k : ℕ) × Leads k (start t gs) (done (checkTerm t gs)) × (progressOf (checkTerm t gs) .turns ≡ k) × (k ≤ ownStates [] t + steps gs)
-unfolding start checkTerm states statesOf frameStates
+unfolding start checkTermBy states statesOf frameStates
 whole t gs = let f = finish-big (asked t) (begun gs) in (f .0, big-leads (f .1), turns-taken (f .1) ∙ zero-add (f .0), omega (arith, f .2))
 
 pub turning : Turning

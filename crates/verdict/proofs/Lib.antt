@@ -6,3 +6,4 @@ pub mod Stop
 pub mod Laws
 pub mod Promises
 pub mod Table
+pub mod Former

@@ -11,12 +11,12 @@ use lib.ListN.{length, drop}
 use Rattle.calculus.specs.Terms.{Term}
 use Rattle.calculus.specs.Frames.{Frame}
 use Rattle.calculus.specs.Types.{type}
-use Rattle.calculus.specs.Steps.{Step, Reason, Outcome, reached, refused, thenOutcome, step, replay}
+use Rattle.calculus.specs.Steps.{Step, Reason, Outcome, reached, refused, thenOutcome, step, replayBy, replay}
 use Rattle.calculus.specs.Rules.{Group, Same}
 use Rattle.calculus.proofs.Weaken.{reached-inj}
 use Rattle.verdict.specs.Bounds.{bodyFits}
 use Rattle.verdict.specs.Verdict.{Item, same-at, Side, Ground, untyped, something-waits, no-group, step-refused, state-outgrown, type-outgrown, domain-outgrown, step-outgrown, bodies-differ, number}
-use Rattle.verdict.specs.Verdict.{Progress, turned, completed, Run, stopped, OtherSide, right-next, left-reached, sideOf, Configuration, on-step, Status, at-turn, done, identical, formsMeet, sideFrom, withGroup, withType, toTurn, stepped, turn, onward, run, steps}
+use Rattle.verdict.specs.Verdict.{Progress, turned, completed, Run, stopped, OtherSide, right-next, left-reached, sideOf, Configuration, on-step, Status, at-turn, done, identical, formsMeet, sideFrom, withGroup, withType, toTurn, stepped, turnBy, turn, onward, runBy, run, steps}
 use Rattle.verdict.specs.Claims.{FormsFit, no-form, next-form, SameFits}
 use Rattle.verdict.proofs.Runs.{identical-eq, identical-refl}
 
@@ -39,7 +39,7 @@ pub turn-to : (m : Configuration) (p : Progress) {k : ℕ} {a b : Status} → tu
 turn-to m p q e = by-turn (leads-from q e)
 
 pub run-leads : (n : ℕ) {k : ℕ} {a : Status} {x : Run} → Leads k a (done x) → k ≤ n → run n a ≡ x
-unfolding run onward
+unfolding runBy onward
 run-leads zero here h = refl
 run-leads zero (by-turn d) h = let z : ⊥ = omega arith in absurd z
 run-leads (suc n) here h = refl
@@ -68,11 +68,11 @@ pub record Reaches (R : Frame) (ss : List Step) (t f : Term) : Type 0 where
   pub fits : FormsFit R ss t
 
 reach-none : {R : Frame} {t f : Term} → t ≡ f → Reaches R [] t f
-unfolding replay
+unfolding replayBy
 reach-none q = record { reaches = ap reached q; fits = no-form }
 
 reach-step : {R : Frame} {s : Step} {ss : List Step} {t u f : Term} → step R s t ≡ reached u → bodyFits R u ≡ true → Reaches R ss u f → Reaches R (s ∷ ss) t f
-unfolding replay thenOutcome
+unfolding replayBy thenOutcome
 reach-step {R} {ss = ss} q b i = record { reaches = ap (λ (o : Outcome). thenOutcome o (replay R ss)) q ∙ i .reaches; fits = next-form q b (i .fits) }
 
 -- THE SIDES
@@ -98,7 +98,7 @@ module _ (place : ℕ) (R : Frame) (o : OtherSide) where
 
   -- a step more
   join-step : (n : ℕ) (s : Step) (ss : List Step) (t : Term) (p : Progress) → ((u : Term) → JoinedFrom (suc n) ss u (turned 1 p)) → JoinedFrom n (s ∷ ss) t p
-  unfolding sideFrom turn stepped number
+  unfolding sideFrom turnBy stepped number
   join-step n s ss t p = go (step R s t) refl
     where
       stop : (g : Ground) → Numbered g → ((rest : List Item) → turn (on-step place R o n s ss t rest) (turned 1 p) ≡ done (stopped g (turned 1 p))) → JoinedFrom n (s ∷ ss) t p
@@ -147,7 +147,7 @@ record Through (p : Progress) (k : ℕ) (go : List Item → Status) : Type 0 whe
 module _ (place : ℕ) (R : Frame) (o : OtherSide) (f : Term) (j : ℕ)
     (base : (n : ℕ) (p : Progress) → Through p j (λ rest. sideFrom place R o n [] f rest (toTurn rest) p)) where
   through : (n : ℕ) (ss : List Step) (t : Term) (p : Progress) → FormsFit R ss t → replay R ss t ≡ reached f → Through p (length ss + j) (λ rest. sideFrom place R o n ss t rest (toTurn rest) p)
-  unfolding sideFrom turn stepped replay thenOutcome
+  unfolding sideFrom turnBy stepped replayBy thenOutcome
   through n [] t p no-form e = let q : t ≡ f = reached-inj e in rw (q, zero-add j) (base n p)
   through n (s ∷ ss) t p (next-form {u = u} h b d) e =
       let i = through (suc n) ss u (turned 1 p) d (ap (λ (x : Outcome). thenOutcome x (replay R ss)) (sym h) ∙ e) in

@@ -7,12 +7,13 @@ use mathlib.Core.List.{List, [], _∷_, _++_}
 use lib.ListN.{length}
 use Rattle.calculus.specs.Terms.{Term, app, abs, size, applicators, Closed}
 use Rattle.calculus.specs.Frames.{Frame, ε, _▹_, single, pair}
-use Rattle.calculus.specs.Steps.{Step, step, reached}
+use Rattle.calculus.specs.Steps.{Step, base, step, reached}
 use Rattle.calculus.specs.Rules.{Group, Same, liftAll, State, own, Next, asks, stops, onePassNext, Holds, nothing-left, met, by-rule, OnePass, groups}
+use Rattle.calculus.specs.Whole.{NoWholes}
 use Rattle.calculus.specs.Walks.{ownStates}
 use Rattle.code.specs.Refusals.{noType, bodiesDiffer}
 use Rattle.verdict.specs.Bounds.{stateFits, bodyFits}
-use Rattle.verdict.specs.Verdict.{Item, state-at, same-at, placed, Ground, state-outgrown, not-reached, groundOf, Progress, turned, Run, passed, stopped, andThen, Status, at-turn, done, turn, steps, finish, start, checkTerm, number}
+use Rattle.verdict.specs.Verdict.{Item, state-at, same-at, placed, Ground, state-outgrown, not-reached, groundOf, Progress, turned, Run, passed, stopped, andThen, OtherSide, Configuration, on-state, on-step, Status, at-turn, done, turn, steps, finish, start, checkTermBy, checkTerm, number}
 
 -- WITHIN THE LIMITS
 -- Every form that a list of steps carries a body to.
@@ -99,3 +100,13 @@ pub record Turning : Type 0 where
   pub not-before : (t : Term) (gs : List Group) (n : ℕ) (x : Run) → n < progressOf (checkTerm t gs) .turns → afterTurns n (start t gs) ≡ done x → ⊥
   -- and there are no more than states and steps
   pub at-most : (t : Term) (gs : List Group) → progressOf (checkTerm t gs) .turns ≤ ownStates [] t + steps gs
+
+-- 5. Kinds 1 and 2 alone (request (a)). Where no group has kind 3, no turn is a step of kind 3, and the run is that of the check which
+-- has kinds 1 and 2 only.
+pub data FormerTurn : Configuration → Type 0 where
+  for-state : {place : ℕ} {ws : List ℕ} {s : State} {rest : List Item} → FormerTurn (on-state place ws s rest)
+  for-step : {place n : ℕ} {R : Frame} {o : OtherSide} {s : Step} {ss : List Step} {t : Term} {rest : List Item} → (s .kind ≡ 3 → ⊥) → FormerTurn (on-step place R o n s ss t rest)
+
+pub record FormerRuns : Type 0 where
+  pub turns : (t : Term) (gs : List Group) (n : ℕ) (c : Configuration) (p : Progress) → NoWholes gs → afterTurns n (start t gs) ≡ at-turn c p → FormerTurn c
+  pub as-before : (t : Term) (gs : List Group) → NoWholes gs → checkTermBy base t gs ≡ checkTerm t gs

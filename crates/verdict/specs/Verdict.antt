@@ -12,7 +12,7 @@ use lib.ListN.{length, drop, getD}
 use Rattle.calculus.specs.Terms.{Term, tau, var, app, abs, size}
 use Rattle.calculus.specs.Frames.{Frame, ε}
 use Rattle.calculus.specs.Types.{type}
-use Rattle.calculus.specs.Steps.{Step, Reason, Outcome, reached, refused, step}
+use Rattle.calculus.specs.Steps.{Step, Reading, full, Reason, Outcome, reached, refused, stepBy}
 use Rattle.calculus.specs.Rules.{Group, State, own, copied, compare, Question, holds, same, Stop, waiting, waiting-copied, unbound, no-rule, Next, asks, stops, onePassNext}
 use Rattle.calculus.specs.Walks.{statesOf}
 use Rattle.code.specs.Refusals as refusals
@@ -160,21 +160,27 @@ unfoldable pub stepped : Frame → (Reason → Ground) → Ground → (Term → 
 stepped R refusal outgrown more (refused why) p = done (stopped (refusal why) p)
 stepped R refusal outgrown more (reached u) p = let x = more u p in cond (bodyFits R u) x (done (stopped outgrown p))
 
--- One turn. A state is tested for 11 before its rule.
-unfoldable pub turn : Configuration → Progress → Status
-turn (on-state place ws s rest) p = let x = replaced place ws (onePassNext s) rest p in cond (stateFits s) x (done (stopped (state-outgrown place) p))
-turn (on-step place R o n s ss t rest) p =
-    stepped R (step-refused place (sideOf o) n) (step-outgrown place (sideOf o) n) (λ u. sideFrom place R o (suc n) ss u rest (toTurn rest)) (step R s t) p
+-- One turn, with the steps of a reading. A state is tested for 11 before its rule.
+unfoldable pub turnBy : Reading → Configuration → Progress → Status
+turnBy x (on-state place ws s rest) p = let y = replaced place ws (onePassNext s) rest p in cond (stateFits s) y (done (stopped (state-outgrown place) p))
+turnBy x (on-step place R o n s ss t rest) p =
+    stepped R (step-refused place (sideOf o) n) (step-outgrown place (sideOf o) n) (λ u. sideFrom place R o (suc n) ss u rest (toTurn rest)) (stepBy x R s t) p
+
+abbrev pub turn : Configuration → Progress → Status
+turn c p = turnBy full c p
 
 -- THE CHECK: turn after turn, each counted, to the end
-unfoldable pub onward : (Status → Run) → Status → Run
-onward more (at-turn c p) = more (turn c (turned 1 p))
-onward more (done x) = x
+unfoldable pub onward : Reading → (Status → Run) → Status → Run
+onward x more (at-turn c p) = more (turnBy x c (turned 1 p))
+onward x more (done r) = r
 
-unfoldable pub run : ℕ → Status → Run
-run zero (at-turn c p) = stopped (not-reached 0) p
-run zero (done x) = x
-run (suc n) a = onward (run n) a
+unfoldable pub runBy : Reading → ℕ → Status → Run
+runBy x zero (at-turn c p) = stopped (not-reached 0) p
+runBy x zero (done r) = r
+runBy x (suc n) a = onward x (runBy x n) a
+
+abbrev pub run : ℕ → Status → Run
+run n a = runBy full n a
 
 -- No more turns than this: the states that the questions lead to, and the steps of the groups.
 unfoldable pub states : List Item → ℕ
@@ -187,8 +193,11 @@ steps [] = 0
 steps (g ∷ gs) = (length (g .left) + length (g .right)) + steps gs
 
 -- The check of an agenda.
-unfoldable pub finish : List Item → Progress → Run
-finish items p = run (states items + steps (p .left)) (toTurn items p)
+unfoldable pub finishBy : Reading → List Item → Progress → Run
+finishBy x items p = runBy x (states items + steps (p .left)) (toTurn items p)
+
+abbrev pub finish : List Item → Progress → Run
+finish items p = finishBy full items p
 
 -- The check of a term with the groups of its file: what is asked, how it begins, and what it comes to.
 abbrev pub asked : Term → List Item
@@ -200,8 +209,11 @@ begun gs = record { left = gs; comparisons = 0; turns = 0 }
 unfoldable pub start : Term → List Group → Status
 start t gs = toTurn (asked t) (begun gs)
 
-unfoldable pub checkTerm : Term → List Group → Run
-checkTerm t gs = finish (asked t) (begun gs)
+unfoldable pub checkTermBy : Reading → Term → List Group → Run
+checkTermBy x t gs = finishBy x (asked t) (begun gs)
+
+abbrev pub checkTerm : Term → List Group → Run
+checkTerm t gs = checkTermBy full t gs
 
 -- What the answer shows of a ground: its number and its place.
 unfoldable pub number : Ground → ℕ

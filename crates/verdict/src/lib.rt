@@ -1,6 +1,6 @@
 // The bounded check of a term with supplied groups, as a definition on trees, and what it promises. No code: the check of a
 // file is proved equal to it. Each function's contract is a promise of specs/Claims.antt or specs/Examples.antt.
-ghost use Rattle.verdict.specs.Claims.{Passing, Stopping, Running, Turning};
+ghost use Rattle.verdict.specs.Claims.{Passing, Stopping, Running, Turning, FormerRuns};
 ghost use Rattle.verdict.specs.Examples.{Examples};
 
 pub fn what_passes()
@@ -17,6 +17,10 @@ pub fn how_it_runs()
 
 pub fn turn_by_turn()
     ensures { λ r. ⌜ Turning ⌝ }
+{}
+
+pub fn former_runs()
+    ensures { λ r. ⌜ FormerRuns ⌝ }
 {}
 
 pub fn worked_examples()
