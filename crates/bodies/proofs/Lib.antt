@@ -4,12 +4,11 @@ pub mod Ways
 pub mod Extents
 pub mod Mapping
 pub mod Lifting
-pub mod Lowering
+pub mod Endings
 pub mod Finding
 pub mod Splitting
 pub mod Binding
 pub mod Places
 pub mod Putting
 pub mod Meaning
-pub mod Removals
 pub mod Using

@@ -15,7 +15,7 @@ use Rattle.code.specs.Scope.{scope}
 use Rattle.parts.specs.Parts.{part}
 use Rattle.letters.specs.Letters.{letter, letters, applicator, abstractor, symbolOf, depthOf, heightOf, Lies}
 use Rattle.letters.proofs.Letters.{letter-parts, symbol-letter, depth-letter, height-letter, lies-taken}
-use Rattle.bodies.specs.Moving.{liftedSymbol, liftedLetter, Mapped, LiftableLetter, PartLiftable, Lifts, DeepestIs}
+use Rattle.bodies.specs.Moving.{liftedSymbol, liftedLetter, Mapped, LiftableLetter, TermLiftable, Lifts, DeepestIs}
 use Rattle.bodies.proofs.Extents.{above, under, scope-under, first-height}
 
 -- ---- The letters of a term.
@@ -40,8 +40,11 @@ module _ (c k h low : ℕ) where
       (map-append (liftedLetter c k h low) (letters (c + e) (suc (low + z)) U) (letters (suc (c + e)) (low + z) B)
       ∙ ap₂ _++_ (rw (add-suc low z, add-suc h z) at (lifted-letters e (suc z) f (omega arith))) (rw (add-suc c e, suc-add (c + e) k) at (lifted-letters (suc e) z g (omega arith))))
 
+pub lifted-whole : {t : Term} (c low k h : ℕ) → Coded t → c + scope t < 1024 → map (liftedLetter c k h low) (letters c low t) ≡ letters (c + k) h (lift k 0 t)
+lifted-whole c low k h f b = rw (add-zero c, add-zero low, add-zero h) at (lifted-letters c k h low 0 0 f (omega arith))
+
 pub lifted-lies : {s : List ℕ} {from e c low : ℕ} {t : Term} (k h : ℕ) → Lies s from e c low t → c + scope t < 1024 → map (liftedLetter c k h low) (part s from e) ≡ letters (c + k) h (lift k 0 t)
-lifted-lies {c = c} {low} k h l b = ap (map (liftedLetter c k h low)) (lies-taken l) ∙ rw (add-zero c, add-zero low, add-zero h) at (lifted-letters c k h low 0 0 (l .coded) (omega arith))
+lifted-lies {c = c} {low} k h l b = ap (map (liftedLetter c k h low)) (lies-taken l) ∙ lifted-whole c low k h (l .coded) b
 
 -- ---- A letter, by the code's tests: the symbol stays, or rises by k too.
 module _ (c k h low x : ℕ) (l : LiftableLetter c k h low x) where
@@ -54,7 +57,7 @@ module _ (c k h low x : ℕ) (l : LiftableLetter c k h low x) where
   unfolding liftedLetter liftedSymbol letter
   lifted-raised a b = rw (lt-ltb (symbolOf x) applicator a, index-high k (depthOf x - c) (symbolOf x) b) (omega (arith, letter-parts x, l .low-enough))
 
-pub liftable-letter : {s : List ℕ} {from e c k h at low i : ℕ} → PartLiftable s from e c k h at → low ≡ heightOf (getD s from 0) → from ≤ i → i < e → LiftableLetter c k h low (getD s i 0)
+pub liftable-letter : {s : List ℕ} {from e c k h low i : ℕ} → TermLiftable s from e c k h → low ≡ heightOf (getD s from 0) → from ≤ i → i < e → LiftableLetter c k h low (getD s i 0)
 liftable-letter {i = i} g w l n =
     let v = first-height (g .lies) (omega (arith, g .few)) in
     let a = above (g .term) (omega (arith, g .few)) (g .lies) i l n in
@@ -67,9 +70,9 @@ liftable-letter {i = i} g w l n =
       high = omega (arith, u .high, g .high);
     }
 
-pub lifts : {s s′ : List ℕ} {from e c k h at low : ℕ} → Mapped (liftedLetter c k h low) s s′ from e at → low ≡ heightOf (getD s from 0) → Lifts s s′ from e c k h at
-lifts {s} {s′} {from} {e} {c} {k} {h} {at} m q =
-    record { all = λ low t l b. subst (λ x. Mapped (liftedLetter c k h x) s s′ from e at) (q ∙ first-height l (omega arith)) m; same-length = m .same-length }
+pub lifts : {r s s′ : List ℕ} {from e c k h at low : ℕ} → Mapped (liftedLetter c k h low) r s s′ from e at → low ≡ heightOf (getD r from 0) → Lifts r s s′ from e c k h at
+lifts {r} {s} {s′} {from} {e} {c} {k} {h} {at} m q =
+    record { all = λ low t l b. subst (λ x. Mapped (liftedLetter c k h x) r s s′ from e at) (q ∙ first-height l (omega arith)) m; same-length = m .same-length }
 
 -- ---- The deepest letter: `most` is the least that no letter from `from` up to i is deeper than.
 pub record Deepening (s : List ℕ) (from i most : ℕ) : Type 0 where

@@ -11,7 +11,7 @@ use lib.ListN.{length, getD}
 use Rattle.calculus.specs.Terms.{Term, tau, var, app, abs, size, lift}
 use Rattle.calculus.specs.Frames.{Entry, single, pair, domain, Frame, depth, entryAt}
 use Rattle.calculus.specs.Types.{type, typeOfVar}
-use Rattle.calculus.specs.Steps.{local, kindOf, Reason, wrong-symbol, no-partner, Outcome, reached, refused, mapOutcome, reduceVar, stepHere, stepAt, stepOf, step}
+use Rattle.calculus.specs.Steps.{local, kindIn, Reason, wrong-symbol, no-partner, Outcome, reached, refused, mapOutcome, reduceVar, stepHere, stepAt, stepOf, stepBy, step}
 use Rattle.calculus.proofs.Closed.{closedness}
 use Rattle.calculus.proofs.Ren.{no-some, some-inj}
 use Rattle.code.specs.Limits.{longestTerm, mostAbstractors}
@@ -35,7 +35,7 @@ use Rattle.bodies.specs.declared.Form.the-variants.{Refused}
 use Rattle.bodies.specs.declared.Source.{Source}
 use Rattle.bodies.proofs.Ways.{place-way, step-along, means-outside, LastIs, ends-tau, ends-variable, last-is, same-frame}
 use Rattle.bodies.proofs.Extents.{above}
-use Rattle.bodies.proofs.Lowering.{ending-is}
+use Rattle.bodies.proofs.Endings.{ending-is}
 use Rattle.bodies.proofs.Places.{At, at-way, index-there}
 
 -- ---- A variable, and what is no variable, by the letter's symbol.
@@ -57,7 +57,7 @@ module _ {W : List ℕ} {f : FrameRecord} {s : List ℕ} {n p : ℕ} {R : Frame}
   variable-way {k} e a b = let r = way-there in subst (Way t p) (variable-is (r .0) (e ∙ at-way y (r .1) .symbol) a b) (r .1)
 
   pub not-variable : {k : ℕ} → k ≡ symbolOf (getD s p 0) → (1 ≤ k → k < applicator → ⊥) → step R (record { kind = 1; place = p }) t ≡ refused wrong-symbol
-  unfolding step stepOf kindOf mapOutcome stepHere first
+  unfolding stepBy stepOf kindIn mapOutcome stepHere first
   not-variable {k} e c = let r = way-there in step-along local R none (r .1) ∙ ap (mapOutcome (put (r .1))) (go (r .0) (r .1) (at-way y (r .1) .there-now .lies .coded) (e ∙ at-way y (r .1) .symbol))
     where
       go : (u : Term) (w : Way t p u) → Coded u → k ≡ first u → stepHere local (frameAt R none w) u ≡ refused wrong-symbol
@@ -105,7 +105,7 @@ reduce-alone k (single U) q = refl
 reduce-alone k (pair K U) q = no-some (sym q)
 
 local-here : {p k : ℕ} (R : Frame) {t : Term} (w : Way t p (var k)) {e : Entry} → entryAt (frameAt R none w) k ≡ some e → step R (record { kind = 1; place = p }) t ≡ mapOutcome (put w) (reduceVar k (some e))
-unfolding step stepOf kindOf stepHere
+unfolding stepBy stepOf kindIn stepHere
 local-here {k = k} R w q = step-along local R none w ∙ ap (λ o. mapOutcome (put w) (reduceVar k o)) q
 
 -- The entry is single.

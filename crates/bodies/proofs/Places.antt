@@ -24,9 +24,10 @@ use Rattle.letters.specs.Letters.{letter, letters, symbolOf, depthOf, heightOf,
 use Rattle.letters.proofs.Letters.{first, first-small, length-letters, symbol-letter, depth-letter, height-letter, head-of, lies-end}
 use Rattle.bodies.specs.Ways.{Way, put, depthAt, heightAt}
 use Rattle.bodies.specs.Held.{Held, FormAs, form-outgrown, form-held}
+use Rattle.bodies.specs.Moving.{Spliced}
 use Rattle.bodies.specs.declared.Form.the-variants.{Outgrown, Length}
 use Rattle.bodies.proofs.Ways.{way-within, way-scope, way-closed, put-size, put-scope, height-least}
-use Rattle.bodies.proofs.Splitting.{There, there, Spliced, lies-put}
+use Rattle.bodies.proofs.Splitting.{There, there, lies-put}
 
 -- ---- What the letter there says.
 pub record At (s : List ℕ) (n p : ℕ) (R : Frame) {t u : Term} (w : Way t p u) : Type 0 where

@@ -105,9 +105,9 @@ module _ {w s : List ℕ} {p k d h room : ℕ} {x : Source} (g : Sourced w s p k
 
         pub source-liftable : PartLiftable s (x .start) (x .end) (d - k) k h p
         source-liftable = let i = inside (g .source) in
-            record { array = g .array; low = i .low; term = g .term; lies = i .lies; few = few-lifted (g .source); high = g .high; past = i .before; fits = g .fits }
+            record { liftable = record { array = g .array; low = i .low; term = g .term; lies = i .lies; few = few-lifted (g .source); high = g .high }; past = i .before; fits = g .fits }
 
-        pub source-lifted : {s′ : List ℕ} → Lifts s s′ (x .start) (x .end) (d - k) k h p → SourceWritten w s s′ p k d h room x true
+        pub source-lifted : {s′ : List ℕ} → Lifts s s s′ (x .start) (x .end) (d - k) k h p → SourceWritten w s s′ p k d h room x true
         source-lifted {s′} j = record { all = λ K i. go K i; same-length = j .same-length }
           where
             go : (K : Term) → SourceIs w s p k d x K → ReadAs k d h room s s′ p K true

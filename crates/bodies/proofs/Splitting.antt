@@ -14,6 +14,7 @@ use Rattle.parts.specs.Parts.{part}
 use Rattle.letters.specs.Letters.{letter, letters, applicator, abstractor, heightOf, Lies}
 use Rattle.letters.proofs.Letters.{first, first-small, length-letters, height-letter, head-of, lies-end}
 use Rattle.bodies.specs.Ways.{Way, here, in-argument, past-argument, in-domain, past-domain, put, depthAt, heightAt}
+use Rattle.bodies.specs.Moving.{Spliced}
 use Rattle.bodies.proofs.Ways.{put-same, put-size, way-within, height-least}
 use Rattle.bodies.proofs.Extents.{Parts, app-parts, abs-parts}
 
@@ -48,12 +49,7 @@ split d h (past-argument {K = K} w) x = ap (letter applicator d h ∷_) (rw (spl
 split d h (in-domain {B = B} l w) x = ap (letter abstractor d h ∷_) (rw (split d (suc h) w x) (simp append-assoc))
 split d h (past-domain {U = U} w) x = ap (letter abstractor d h ∷_) (rw (split (suc d) h w x) (simp append-assoc))
 
--- ---- Of the first n letters of s, those from p up to q are replaced by v; what follows them all in s′ may be anything.
-pub record Spliced (s s′ : List ℕ) (n p q : ℕ) (v : List ℕ) : Type 0 where
-  pub rest : List ℕ
-  pub letters-there : s′ ≡ take p s ++ (v ++ (part s q n ++ rest))
-  pub same-length : length s′ ≡ length s
-
+-- ---- The body with another term there.
 module _ {s : List ℕ} {n p : ℕ} {t u : Term} (l : Lies s 0 n 0 0 t) (w : Way t p u) where
   around : s ≡ before 0 0 w ++ (letters (depthAt 0 w) (heightAt 0 w) u ++ (after 0 0 w ++ l .rest))
   around = l .letters-there ∙ ap (λ x. letters 0 0 x ++ l .rest) (sym (put-same w)) ∙ rw (split 0 0 w u) (simp append-assoc)
@@ -70,7 +66,6 @@ module _ {s : List ℕ} {n p : ℕ} {t u : Term} (l : Lies s 0 n 0 0 t) (w : Way
         ∙ drop-at (before 0 0 w ++ letters (depthAt 0 w) (heightAt 0 w) u) (after 0 0 w ++ l .rest) q (simp (length-append, length-letters, length-before) (omega arith)))
         ∙ take-at (after 0 0 w) (l .rest) (n - q) count
 
-    -- The body with x there.
     pub lies-put : Lies s′ 0 (size (put w x)) 0 0 (put w x)
     lies-put = record { rest = g .rest; letters-there = g .letters-there ∙ rw (start, end, split 0 0 w x) (simp append-assoc); coded = c; place = omega arith }
 

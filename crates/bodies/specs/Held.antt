@@ -35,15 +35,10 @@ pub record SomeHeld (w : List ℕ) (f : FrameRecord) (s : List ℕ) (n : ℕ) : 
   pub term : Term
   pub held : Held w f s n frame term
 
--- Place p is in it; and so after some frame.
+-- Place p is in it.
 pub record InBody (w : List ℕ) (f : FrameRecord) (s : List ℕ) (n p : ℕ) : Type 0 where
   pub some-held : SomeHeld w f s n
   pub inside : p < n
-
-pub record InSomeBody (s : List ℕ) (n p : ℕ) : Type 0 where
-  pub work : List ℕ
-  pub frames : FrameRecord
-  pub in-body : InBody work frames s n p
 
 -- The form u is over the limits, or s holds it.
 pub data FormAs (w : List ℕ) (f : FrameRecord) (s : List ℕ) (R : Frame) (u : Term) : Form → Type 0 where

@@ -1,11 +1,11 @@
--- Letters moved within a body: lifted to another place, lowered, or as they are.
+-- Letters moved within a body: lifted to another place, or as they are.
 -- Assumes nothing.
-use Prim.Native.Nat.{ℕ, suc, _+_, _-_, _*_, _≤_, _<_}
+use Prim.Native.Nat.{ℕ, _+_, _-_, _≤_, _<_}
 use mathlib.Core.Path.{_≡_}
 use mathlib.Core.Bool.{cond}
-use mathlib.Core.List.{List, [], _∷_, map}
-use lib.Dec.{ltb, eqb}
-use lib.ListN.{length, getD}
+use mathlib.Core.List.{List, _++_, map}
+use lib.Dec.{ltb}
+use lib.ListN.{length, getD, take}
 use lib.Seq.{sets}
 use Rattle.calculus.specs.Terms.{Term, liftIndex}
 use Rattle.code.specs.Limits.{longestTerm, mostAbstractors}
@@ -13,9 +13,15 @@ use Rattle.code.specs.Scope.{scope}
 use Rattle.parts.specs.Parts.{part}
 use Rattle.letters.specs.Letters.{symbols, depths, heights, letter, applicator, symbolOf, depthOf, heightOf, Lies}
 
--- s′ is s with the letters from a place up to another, each changed by g, stored from `at` on, and nothing else changed.
-pub record Mapped (g : ℕ → ℕ) (s s′ : List ℕ) (from to at : ℕ) : Type 0 where
-  pub letters-there : s′ ≡ sets s at (map g (part s from to))
+-- s′ is s with the letters of r from a place up to another, each changed by g, stored from `at` on, and nothing else changed.
+pub record Mapped (g : ℕ → ℕ) (r s s′ : List ℕ) (from to at : ℕ) : Type 0 where
+  pub letters-there : s′ ≡ sets s at (map g (part r from to))
+  pub same-length : length s′ ≡ length s
+
+-- Of the first n letters of s, those from p up to q are replaced by v; what follows them all in s′ may be anything.
+pub record Spliced (s s′ : List ℕ) (n p q : ℕ) (v : List ℕ) : Type 0 where
+  pub rest : List ℕ
+  pub letters-there : s′ ≡ take p s ++ (v ++ (part s q n ++ rest))
   pub same-length : length s′ ≡ length s
 
 -- The end of a term: e is the first place from i on, of n, whose letter is less high than h.
@@ -40,19 +46,24 @@ pub record LiftableLetter (c k h low x : ℕ) : Type 0 where
   pub low-enough : low ≤ heightOf x
   pub high : heightOf x + h < low + heights
 
--- A term that lies in s, where its first letter has depth c; lifted by k and with height h it has room from `at` on, past its end.
-pub record PartLiftable (s : List ℕ) (from e c k h at : ℕ) : Type 0 where
+-- A term that lies in s, where its first letter has depth c, and that may be lifted by k to height h; it has room in s from `at` on, past
+-- its end.
+pub record TermLiftable (s : List ℕ) (from e c k h : ℕ) : Type 0 where
   pub array : length s ≡ longestTerm
   pub low : ℕ
   pub term : Term
   pub lies : Lies s from e c low term
   pub few : c + scope term + k ≤ mostAbstractors
   pub high : h + e ≤ from + longestTerm
+
+pub record PartLiftable (s : List ℕ) (from e c k h at : ℕ) : Type 0 where
+  pub liftable : TermLiftable s from e c k h
   pub past : e ≤ at
   pub fits : at + (e - from) ≤ longestTerm
 
-pub record Lifts (s s′ : List ℕ) (from e c k h at : ℕ) : Type 0 where
-  pub all : (low : ℕ) (t : Term) → Lies s from e c low t → c + scope t + k ≤ mostAbstractors → Mapped (liftedLetter c k h low) s s′ from e at
+-- The term in r goes lifted to s.
+pub record Lifts (r s s′ : List ℕ) (from e c k h at : ℕ) : Type 0 where
+  pub all : (low : ℕ) (t : Term) → Lies r from e c low t → c + scope t + k ≤ mostAbstractors → Mapped (liftedLetter c k h low) r s s′ from e at
   pub same-length : length s′ ≡ length s
 
 -- The most abstractors of the body that any letter of a term has in scope.
@@ -66,26 +77,3 @@ pub record SomeLies (s : List ℕ) (from e : ℕ) : Type 0 where
   pub term : Term
   pub lies : Lies s from e c low term
   pub few : c + scope term ≤ mostAbstractors
-
--- LOWERING. The symbol x where the dropped variable would be e; the letter x in the scope of a dropped abstractor of depth c.
-unfoldable pub loweredSymbol : ℕ → ℕ → ℕ
-loweredSymbol e x = cond (ltb x applicator) (cond (ltb x e) x (x - 1)) x
-
-unfoldable pub loweredLetter : ℕ → ℕ → ℕ
-loweredLetter c x = letter (loweredSymbol (depthOf x - c) (symbolOf x)) (depthOf x - 1) (heightOf x)
-
--- How often its variable is used.
-unfoldable pub useOf : ℕ → ℕ → ℕ
-useOf c x = cond (eqb (symbolOf x) (depthOf x - c)) 1 0
-
-unfoldable pub usesOf : ℕ → List ℕ → ℕ
-unfolding useOf
-usesOf c [] = 0
-usesOf c (x ∷ s) = useOf c x + usesOf c s
-
--- Letters that stand in the scope of an abstractor of depth c.
-pub record InScope (s : List ℕ) (from e c : ℕ) : Type 0 where
-  pub array : length s ≡ longestTerm
-  pub ordered : from ≤ e
-  pub inside : e ≤ longestTerm
-  pub deep : (j : ℕ) → from ≤ j → j < e → c < depthOf (getD s j 0)

@@ -1,15 +1,13 @@
-// A body held as letters, after a frame: its type, and one step on it (document 01, 'Terms' and 'Steps').
+// A body held as letters, after a frame: its type, and a local step on it (document 01, 'Terms' and 'Steps').
 ghost use mathlib.Core.Path.{_≡_};
-ghost use mathlib.Core.List.{List};
-ghost use Prim.Native.Nat.{ℕ, _+_, _-_, _≤_, _<_, max};
+ghost use Prim.Native.Nat.{_+_, _-_, _≤_, _<_, max};
 ghost use lib.ListN.{length};
 ghost use Rattle.code.specs.Limits.{longestTerm};
-ghost use Rattle.frames.specs.declared.FrameRecord.{FrameRecord as Record};
 ghost use Rattle.letters.specs.Letters.{depthOf};
-ghost use Rattle.parts.specs.Parts.{part, Copied};
-ghost use Rattle.bodies.specs.Held.{SomeHeld, InBody, InSomeBody, Steps, Types};
+ghost use Rattle.parts.specs.Parts.{Copied};
+ghost use Rattle.bodies.specs.Held.{SomeHeld, InBody, Steps, Types};
 ghost use Rattle.bodies.specs.Finding.{Findable, Found, Matable, Mated, SomeBound, Finds};
-ghost use Rattle.bodies.specs.Moving.{Mapped, Ending, LiftableLetter, liftedLetter, PartLiftable, Lifts, SomeLies, DeepestIs, loweredLetter, useOf, usesOf, InScope};
+ghost use Rattle.bodies.specs.Moving.{Ending, LiftableLetter, liftedLetter, PartLiftable, Lifts, SomeLies, DeepestIs};
 ghost use Rattle.bodies.specs.Putting.{Sourced, SourceWritten, Puttable, PutsTerm};
 use code::numbers::LONGEST_TERM;
 use code::numbers::MOST_ABSTRACTORS;
@@ -58,7 +56,7 @@ struct Source {
 
 // ---- Parts of the array.
 // The part moves up, last letter first: old and new place may overlap.
-fn move_right(s: &mut Letters, from: usize, to: usize, by: usize)
+pub fn move_right(s: &mut Letters, from: usize, to: usize, by: usize)
     requires { ⌜ (from ≤ to) × (to + by ≤ length (now s)) × (length (now s) ≡ longestTerm) ⌝ }
     ensures { λ r. ⌜ Copied (now (s .entry)) from to (now (s .entry)) (now (s .exit)) (from + by) ⌝ }
 {
@@ -70,7 +68,7 @@ fn move_right(s: &mut Letters, from: usize, to: usize, by: usize)
 }
 
 // The part moves down, first letter first: old and new place may overlap.
-fn move_left(s: &mut Letters, from: usize, to: usize, by: usize)
+pub fn move_left(s: &mut Letters, from: usize, to: usize, by: usize)
     requires { ⌜ (by ≤ from) × ((from ≤ to) × (to ≤ length (now s))) × (length (now s) ≡ longestTerm) ⌝ }
     ensures { λ r. ⌜ Copied (now (s .entry)) from to (now (s .entry)) (now (s .exit)) (from - by) ⌝ }
 {
@@ -103,7 +101,7 @@ fn skip_high(s: &Letters, n: usize, i: usize, h: usize) -> usize
 }
 
 // The first place from i on, of n, whose letter is less high than h.
-fn end_of(s: &Letters, n: usize, i: usize, h: usize) -> usize
+pub fn end_of(s: &Letters, n: usize, i: usize, h: usize) -> usize
     requires { ⌜ (length (now s) ≡ longestTerm) × (n ≤ longestTerm) × (i ≤ n) ⌝ }
     ensures { λ r. ⌜ Ending (now (s .entry)) n i h r ⌝ }
 {
@@ -179,7 +177,7 @@ fn find(s: &Letters, p: usize, d: usize) -> Binder
 }
 
 // ---- Lifting.
-fn narrow(x: usize) -> u32
+pub fn narrow(x: usize) -> u32
     requires { ⌜ x < 4294967296 ⌝ }
     ensures { λ r. ⌜ r ≡ x ⌝ }
 {
@@ -188,7 +186,7 @@ fn narrow(x: usize) -> u32
 
 // A letter of a term that is lifted by k, in 32 bits as the letters are, so that the loop is vectorised. The first letter of the term has
 // depth c and height low, and is to have depth c + k and height h.
-fn lifted_letter(x: u32, c: u32, k: u32, h: u32, low: u32) -> u32
+pub fn lifted_letter(x: u32, c: u32, k: u32, h: u32, low: u32) -> u32
     requires { ⌜ LiftableLetter c k h low x ⌝ }
     ensures { λ r. ⌜ r ≡ liftedLetter c k h low x ⌝ }
 {
@@ -207,7 +205,7 @@ fn lifted_letter(x: u32, c: u32, k: u32, h: u32, low: u32) -> u32
 // letter has height h.
 fn lift_part(s: &mut Letters, from: usize, to: usize, c: u32, k: u32, h: u32, at: usize)
     requires { ⌜ PartLiftable (now s) from to c k h at ⌝ }
-    ensures { λ r. ⌜ Lifts (now (s .entry)) (now (s .exit)) from to c k h at ⌝ }
+    ensures { λ r. ⌜ Lifts (now (s .entry)) (now (s .entry)) (now (s .exit)) from to c k h at ⌝ }
 {
     let low = narrow(height_of(s[from]));
     let mut i = from;
@@ -228,7 +226,7 @@ fn deeper(x: u32, letter: u32) -> u32
 }
 
 // The most abstractors of the body that any letter of the term from `from` up to `to` has in scope.
-fn deepest(s: &Letters, from: usize, to: usize) -> u32
+pub fn deepest(s: &Letters, from: usize, to: usize) -> u32
     requires { ⌜ SomeLies (now s) from to ⌝ }
     ensures { λ r. ⌜ DeepestIs (now (s .entry)) from to r ⌝ }
 {
@@ -239,60 +237,6 @@ fn deepest(s: &Letters, from: usize, to: usize) -> u32
         i += 1;
     }
     most
-}
-
-// ---- Lowering.
-// A letter in the scope of a dropped abstractor of depth c.
-fn lowered_letter(x: u32, c: u32) -> u32
-    requires { ⌜ c < depthOf x ⌝ }
-    ensures { λ r. ⌜ r ≡ loweredLetter c x ⌝ }
-{
-    let symbol = x % 1024;
-    if symbol >= 1022 {
-        return x - 1024;
-    }
-    if symbol < x / 1024 % 1024 - c {
-        return x - 1024;
-    }
-    x - 1025
-}
-
-// The letters from `from` up to `to` are lowered.
-fn lower_part(s: &mut Letters, from: usize, to: usize, c: u32)
-    requires { ⌜ InScope (now s) from to c ⌝ }
-    ensures { λ r. ⌜ Mapped (loweredLetter c) (now (s .entry)) (now (s .exit)) from to from ⌝ }
-{
-    let mut i = from;
-    while i < to {
-        s[i] = lowered_letter(s[i], c);
-        i += 1;
-    }
-}
-
-// 1 if the letter x is a use of the variable of an abstractor of depth c, else 0.
-fn use_of(x: u32, c: u32) -> u32
-    requires { ⌜ c < depthOf x ⌝ }
-    ensures { λ r. ⌜ (r ≡ useOf c x) × (r ≤ 1) ⌝ }
-{
-    if x % 1024 == x / 1024 % 1024 - c {
-        1
-    } else {
-        0
-    }
-}
-
-// How often the variable of an abstractor of depth c is used from `from` up to `to`.
-fn uses(s: &Letters, from: usize, to: usize, c: u32) -> u32
-    requires { ⌜ InScope (now s) from to c ⌝ }
-    ensures { λ r. ⌜ r ≡ usesOf c (part (now (s .entry)) from to) ⌝ }
-{
-    let mut count: u32 = 0;
-    let mut i = from;
-    while i < to {
-        count += use_of(s[i], c);
-        i += 1;
-    }
-    count
 }
 
 // ---- A term in a variable's place.
@@ -342,9 +286,8 @@ fn put(s: &mut Letters, n: usize, work: &Work, len: usize, p: usize, x: Source) 
     Form::Length(m)
 }
 
-// ---- Steps.
-// Kind 1 at place p.
-fn local(s: &mut Letters, n: usize, work: &Work, f: FrameRecord, p: usize) -> Form
+// ---- Steps of kind 1, at place p.
+pub fn local(s: &mut Letters, n: usize, work: &Work, f: FrameRecord, p: usize) -> Form
     requires { ⌜ InBody (now work) f (now s) n p ⌝ }
     ensures { λ r. ⌜ Steps (now (work .entry)) f (now (s .entry)) (now (s .exit)) n (record { kind = 1; place = p }) r ⌝ }
 {
@@ -382,58 +325,6 @@ fn local(s: &mut Letters, n: usize, work: &Work, f: FrameRecord, p: usize) -> Fo
         end: e.domain - 1,
     };
     put(s, n, work, len, p, x)
-}
-
-// Kind 2 at place p.
-fn removal(s: &mut Letters, n: usize, p: usize) -> Form
-    requires { ⌜ InSomeBody (now s) n p ⌝ }
-    ensures { λ r. ⌜ ((w : List ℕ) (f : Record) → Steps w f (now (s .entry)) (now (s .exit)) n (record { kind = 2; place = p }) r) ⌝ }
-{
-    let v = s[p];
-    if symbol_of(v) != APPLICATOR {
-        return Form::Refused(WRONG_SYMBOL);
-    }
-    let h = height_of(v);
-    let m = end_of(s, n, p + 1, h + 1);
-    if symbol_of(s[m]) != ABSTRACTOR {
-        return Form::Refused(NO_PARTNER);
-    }
-    let q = end_of(s, n, m + 1, h + 1);
-    let e = end_of(s, n, q, h);
-    let c = narrow(depth_of(v));
-    if uses(s, q, e, c) > 0 {
-        return Form::Refused(STILL_USED);
-    }
-    lower_part(s, q, e, c);
-    move_left(s, q, n, q - p);
-    Form::Length(n - (q - p))
-}
-
-// One step on the body in the first n letters, after the frame that f holds in work: the form that it reaches takes the body's place.
-pub fn step_in_place(
-    s: &mut Letters,
-    n: usize,
-    work: &Work,
-    f: FrameRecord,
-    kind: u8,
-    place: usize,
-) -> Form
-    requires { ⌜ SomeHeld (now work) f (now s) n ⌝ }
-    ensures { λ r. ⌜ Steps (now (work .entry)) f (now (s .entry)) (now (s .exit)) n (record { kind = kind; place = place }) r ⌝ }
-{
-    if kind == 1 {
-        if place >= n {
-            return Form::Refused(PAST_END);
-        }
-        return local(s, n, work, f, place);
-    }
-    if kind == 2 {
-        if place >= n {
-            return Form::Refused(PAST_END);
-        }
-        return removal(s, n, place);
-    }
-    Form::Refused(UNKNOWN_KIND)
 }
 
 // ---- The type of the body in the first n letters takes its place: U for its last variable.

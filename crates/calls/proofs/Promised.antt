@@ -13,7 +13,9 @@ use borrow.Author.Tests.{leb-true}
 use Rattle.calculus.specs.Terms.{Term, size, Closed}
 use Rattle.calculus.specs.Frames.{ε, depth, closed-empty}
 use Rattle.calculus.specs.Types.{type}
-use Rattle.calculus.specs.Steps.{Step, Outcome, step}
+use Rattle.calculus.specs.Steps.{Step, Outcome, step, replay}
+use Rattle.calculus.specs.Whole.{at, wholeSteps}
+use Rattle.calculus.proofs.Whole.{spelling}
 use Rattle.calculus.specs.Steps as calculus
 use Rattle.calculus.proofs.Degree.{degrees-hold}
 use Rattle.calculus.proofs.Closed.{closedness}
@@ -188,6 +190,10 @@ degree-none : (s out out′ : List ℕ) → DegreeOne s × (out′ ≡ out) → 
 unfolding typeAnswer typeAnswerOf typeWritten
 degree-none s out out′ (d, q) = rw (d .accepts, degrees-hold .no-type ε (d .term) .1 (d .degree-one), q)
 
+step-whole : (s out : List ℕ) (t : Term) (p : ℕ) → examined s ≡ accepted t → stepAnswer s (at 3 p) out ≡ stepWritten out (replay ε (wholeSteps t p) t)
+unfolding stepAnswer stepAnswerOf
+step-whole s out t p h = ap (stepAnswerOf out (at 3 p)) h ∙ ap (stepWritten out) (spelling .as-steps ε t p)
+
 pub promised : Promises
 promised =
     record {
@@ -196,4 +202,5 @@ promised =
       type-none = λ s out out′. (none-degree s out out′, degree-none s out out′);
       type-kept = λ s out e z. stays (type-ways s out) e z;
       step-kept = λ s out x e z. stays (step-ways s out x) e z;
+      step-whole = step-whole;
     }

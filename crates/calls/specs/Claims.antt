@@ -10,12 +10,13 @@ use lib.Seq.{sets}
 use Rattle.calculus.specs.Terms.{Term, size, Closed}
 use Rattle.calculus.specs.Frames.{ε}
 use Rattle.calculus.specs.Types.{degree, type}
-use Rattle.calculus.specs.Steps.{Step, step, reached}
+use Rattle.calculus.specs.Steps.{Step, step, replay, reached}
+use Rattle.calculus.specs.Whole.{at, wholeSteps}
 use Rattle.code.specs.Refusals as refusals
 use Rattle.code.specs.Code.{Bytes, encode, decode}
 use Rattle.code.specs.Scope.{Fits}
 use Rattle.examine.specs.Inspect.{accepted, examined}
-use Rattle.calls.specs.Answers.{nothing, answer, typeAnswer, stepAnswer}
+use Rattle.calls.specs.Answers.{nothing, answer, typeAnswer, stepWritten, stepAnswer}
 
 -- The result u was written to the start of the buffer, and nothing else was: it is closed and within the limits.
 pub record Result (out : List ℕ) (u : Term) (place n : ℕ) (out′ : List ℕ) : Type 0 where
@@ -57,3 +58,5 @@ pub record Promises : Type 0 where
   -- any other answer leaves the buffer, and says that nothing was written
   pub type-kept : (s out : List ℕ) {out′ : List ℕ} {number place n : ℕ} → typeAnswer s out ≡ answer number place n out′ → (number ≡ refusals.accepted → ⊥) → (n ≡ 0) × (out′ ≡ out)
   pub step-kept : (s out : List ℕ) (x : Step) {out′ : List ℕ} {number place n : ℕ} → stepAnswer s x out ≡ answer number place n out′ → (number ≡ refusals.accepted → ⊥) → (n ≡ 0) × (out′ ≡ out)
+  -- kind 3 answers as local steps at all uses, from left to right, and then a removal would, if only the last form were measured
+  pub step-whole : (s out : List ℕ) (t : Term) (p : ℕ) → examined s ≡ accepted t → stepAnswer s (at 3 p) out ≡ stepWritten out (replay ε (wholeSteps t p) t)

@@ -123,7 +123,7 @@ fn step_accepted(s: &[u8], kind: u8, place: usize, out: &mut [u8]) -> StepAnswer
     open_body(s, &mut body);
     let work: Work = [0; LONGEST_STATE];
     let f = frames::empty_frame();
-    let stepped = bodies::step_in_place(&mut body, s.len(), &work, f, kind, place);
+    let stepped = steps::step_in_place(&mut body, s.len(), &work, f, kind, place);
     match stepped {
         Form::Refused(_) => StepAnswer {
             number: STEP_NOT_POSSIBLE,

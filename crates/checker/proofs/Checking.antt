@@ -7,6 +7,7 @@ use native.Mathlib.Omega.{arith}
 use lib.ListN.{length, drop, length-append, length-map}
 use Rattle.calculus.specs.Terms.{Term, Closed}
 use Rattle.calculus.specs.Frames.{ε}
+use Rattle.calculus.specs.Steps.{full}
 use Rattle.calculus.specs.Types.{degree}
 use Rattle.calculus.specs.Rules.{Group, groups}
 use Rattle.code.specs.Code.{Bytes, encode}
@@ -24,7 +25,7 @@ use Rattle.verdict.specs.Verdict.{Progress, Run, passed, stopped, checkTerm}
 use Rattle.verdict.proofs.Promises.{passing}
 use Rattle.files.specs.File.{Opened, refused, opened, openTerm, openFields, openFile}
 use Rattle.files.specs.Check as files
-use Rattle.files.specs.Check.{groupsOf, leftOver, checkAnswerOf, checkOpenedBy, checkOpened, checkFileBy, checkFile}
+use Rattle.files.specs.Check.{groupsOf, leftOver, checkAnswerOf, checkOpenedBy, checkFileBy, checkFile}
 use Rattle.files.proofs.Answers.{term-bytes, says as answer-says}
 use Rattle.walk.specs.Contracts.{Answers, answer-passed, answer-stopped, Walkable, WalkAnswer}
 use Rattle.checker.specs.Answer.{CheckedAs, Checked}
@@ -41,7 +42,7 @@ checked {s} b a = record {
 }
 
 -- an opened file's answer
-from-opened : {r : CheckAnswer} (s : List ℕ) {o : Opened} → openFile s ≡ o → CheckedAs r (checkOpened o) → CheckedAs r (checkFile s)
+from-opened : {r : CheckAnswer} (s : List ℕ) {o : Opened} → openFile s ≡ o → CheckedAs r (checkOpenedBy full o) → CheckedAs r (checkFile s)
 unfolding checkFileBy
 from-opened s h c = rw h c
 

@@ -6,7 +6,6 @@ ghost use Rattle.compare.specs.Replays.{Loadable, Loads, Replays};
 ghost use Rattle.compare.specs.Sides.{Buffers, TwoSides, Sides};
 ghost use Rattle.compare.specs.Compares.{Comparing, Compares, Typing, ComparesType};
 use bodies::Form;
-use bodies::step_in_place;
 use bodies::type_in_place;
 use code::numbers::ACCEPTED;
 use code::numbers::BODIES_DIFFER;
@@ -24,6 +23,7 @@ use frames::Work;
 use letters::Letters;
 use letters::read;
 use letters::same;
+use steps::step_in_place;
 
 // The number of what stops the comparison, or 0 and where the next group stands.
 pub struct Compared {

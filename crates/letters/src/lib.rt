@@ -32,7 +32,7 @@ pub fn letter_of(symbol: usize, depth: usize, height: usize) -> u32
     (symbol + (depth + height * 1024) * 1024) as u32
 }
 
-fn wide(x: u32) -> usize
+pub fn wide(x: u32) -> usize
     ensures { λ r. ⌜ r ≡ x ⌝ }
 {
     x as usize

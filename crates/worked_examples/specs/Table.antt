@@ -1,17 +1,18 @@
--- Document 01, 'Examples to carry in the proofs': E1 with its degree and its type, E2 to E9, and example 11; and some more of the
--- type and the step, with the buffer that is left: aa is a byte that was there before.
+-- Document 01, 'Examples to carry in the proofs': E1 with its degree and its type, E2 to E9, and example 11; some more of the type
+-- and the step, with the buffer that is left: aa is a byte that was there before; and the readings of request (a).
 -- Assumes nothing.
 use Prim.Native.Nat.{ℕ, zero, suc}
 use mathlib.Core.Path.{_≡_}
 use mathlib.Core.List.{List, [], _∷_, _++_, map}
 use Rattle.examine.specs.Inspect.{termAnswer}
 use Rattle.examine.specs.declared.TermAnswer.{TermAnswer}
-use Rattle.files.specs.Check.{CheckAnswer, checkFile}
+use Rattle.calculus.specs.Steps.{base}
+use Rattle.files.specs.Check.{CheckAnswer, checkFileBy, checkFile}
 use Rattle.calls.specs.Answers.{Written, nothing, answer, typeAnswer, stepAnswer}
 
--- A call with what it is given: a term; a file; a term and a buffer; a term, a step's kind and place, and a buffer.
+-- A call with what it is given: a term; a file; a file, where kind 3 is unknown as before request (a); a term and a buffer; a term, a step's kind and place, and a buffer.
 pub data Call : Type 0 where
-  examine-term check-file : List ℕ → Call
+  examine-term check-file check-former : List ℕ → Call
   write-type : List ℕ → List ℕ → Call
   apply-step : List ℕ → (kind place : ℕ) → List ℕ → Call
 
@@ -24,6 +25,7 @@ pub data Answer : Type 0 where
 abbrev pub answerTo : Call → Answer
 answerTo (examine-term s) = of-term (termAnswer s)
 answerTo (check-file s) = of-file (checkFile s)
+answerTo (check-former s) = of-file (checkFileBy base s)
 answerTo (write-type s out) = of-buffer (typeAnswer s out)
 answerTo (apply-step s kind place out) = of-buffer (stepAnswer s (record { kind = kind; place = place }) out)
 
@@ -37,6 +39,9 @@ examineGives s n p d = record { call = examine-term s; gives = of-term (record {
 abbrev pub checkGives : List ℕ → (number place comparisons degree : ℕ) → Example
 checkGives s n p c d = record { call = check-file s; gives = of-file (record { number = n; place = p; comparisons = c; degree = d }) }
 
+abbrev pub formerGives : List ℕ → (number place comparisons degree : ℕ) → Example
+formerGives s n p c d = record { call = check-former s; gives = of-file (record { number = n; place = p; comparisons = c; degree = d }) }
+
 abbrev pub typeGives : (s out : List ℕ) → Written → Example
 typeGives s out w = record { call = write-type s out; gives = of-buffer w }
 
@@ -47,17 +52,20 @@ stepGives s k p out w = record { call = apply-step s k p out; gives = of-buffer 
 abbrev pub file : ℕ → List ℕ → List ℕ → List ℕ
 file n t gs = 0x01 ∷ 0x00 ∷ n ∷ (t ++ gs)
 
--- An empty group, and one with the right step 01 00 00.
+-- An empty group, and one with a right step of some kind at place 0.
 abbrev pub group : List ℕ
 group = 0x02 ∷ 0x00 ∷ 0x00 ∷ 0x03 ∷ 0x00 ∷ 0x00 ∷ []
 
-abbrev pub right-step : List ℕ
-right-step = 0x02 ∷ 0x00 ∷ 0x00 ∷ 0x03 ∷ 0x00 ∷ 0x03 ∷ 0x01 ∷ 0x00 ∷ 0x00 ∷ []
+abbrev pub right-step : ℕ → List ℕ
+right-step kind = 0x02 ∷ 0x00 ∷ 0x00 ∷ 0x03 ∷ 0x00 ∷ 0x03 ∷ kind ∷ 0x00 ∷ 0x00 ∷ []
 
--- n times ff 00, and then s.
-unfoldable pub abstractors : ℕ → List ℕ → List ℕ
-abstractors zero s = s
-abstractors (suc n) s = 0xff ∷ 0x00 ∷ abstractors n s
+-- n times s; and n times ff 00, and then s.
+unfoldable pub times : ℕ → List ℕ → List ℕ
+times zero s = []
+times (suc n) s = s ++ times n s
+
+abbrev pub abstractors : ℕ → List ℕ → List ℕ
+abstractors n s = times n (0xff ∷ 0x00 ∷ []) ++ s
 
 abbrev pub e1 : List ℕ
 e1 = 0xff ∷ 0x00 ∷ 0xff ∷ 0x01 ∷ 0x01 ∷ []
@@ -79,6 +87,17 @@ outgrowing = 0xff ∷ 0xff ∷ 0x00 ∷ 0x00 ∷ abstractors 252 (0xfd ∷ [])
 abbrev pub paired : ℕ → List ℕ
 paired k = 0xff ∷ 0x00 ∷ 0xfe ∷ 0x01 ∷ 0xff ∷ 0x01 ∷ k ∷ []
 
+-- request (a): τ below 31 applicators, used 63 times; [τ]253 and τ below 253 abstractors, each used as the definition of 1
+abbrev pub deep : List ℕ
+deep = times 31 (0xfe ∷ []) ++ times 32 (0x00 ∷ [])
+
+abbrev pub defined : List ℕ → List ℕ → List ℕ
+defined k s = 0xfe ∷ (k ++ 0xff ∷ 0x00 ∷ s)
+
+-- [τ][1]⟨1⟩[⟨2⟩[τ]1]1: the outer U is the type of its K once its own pair is gone
+abbrev pub inner : List ℕ
+inner = 0xff ∷ 0x00 ∷ 0xff ∷ 0x01 ∷ 0xfe ∷ 0x01 ∷ 0xff ∷ 0xfe ∷ 0x02 ∷ 0xff ∷ 0x00 ∷ 0x01 ∷ 0x01 ∷ []
+
 abbrev pub table : List Example
 table =
     -- E1: its degree, and its type
@@ -87,7 +106,7 @@ table =
     ∷ checkGives (file 5 e1 []) 0 0 0 3
     -- E2 to E5
     ∷ checkGives (file 9 e2 group) 0 0 1 3
-    ∷ checkGives (file 13 e3 (group ++ right-step)) 0 0 2 3
+    ∷ checkGives (file 13 e3 (group ++ right-step 0x01)) 0 0 2 3
     ∷ checkGives (file 13 e3 (group ++ group)) 12 8 1 3
     ∷ checkGives (file 11 e5 group) 0 0 1 3
     -- E6 to E9: the examples of 7, 8, 9 and 13
@@ -111,6 +130,26 @@ table =
     ∷ stepGives (paired 0x02) 2 2 (0xaa ∷ 0xaa ∷ 0xaa ∷ 0xaa ∷ []) (answer 0 0 3 (0xff ∷ 0x00 ∷ 0x01 ∷ 0xaa ∷ []))
     ∷ stepGives (paired 0x02) 2 2 (0xaa ∷ 0xaa ∷ []) (answer 14 0 0 (0xaa ∷ 0xaa ∷ []))
     ∷ stepGives (paired 0x01) 9 0 (0xaa ∷ []) (answer 10 0 0 (0xaa ∷ []))
+    -- request (a), A1: only the last form is measured, so this is 14 and not 11; a form on the way has 4,097 bytes
+    ∷ stepGives (defined deep (times 62 (0xfe ∷ 0x01 ∷ []) ++ 0x01 ∷ [])) 3 0 [] (answer 14 0 0 [])
+    -- A2: and so for scopes; a local step would be 11
+    ∷ stepGives (abstractors 252 (defined (0xff ∷ 0x00 ∷ 0xfd ∷ []) (0x01 ∷ []))) 3 504 (times 507 (0xaa ∷ [])) (answer 0 0 507 (abstractors 252 (0xff ∷ 0x00 ∷ 0xfd ∷ [])))
+    ∷ stepGives (abstractors 252 (defined (0xff ∷ 0x00 ∷ 0xfd ∷ []) (0x01 ∷ []))) 1 510 [] (answer 11 0 0 [])
+    ∷ stepGives (defined (abstractors 253 (0x00 ∷ [])) (0x01 ∷ [])) 3 0 (times 507 (0xaa ∷ [])) (answer 0 0 507 (abstractors 253 (0x00 ∷ [])))
+    -- A3: in the body only
+    ∷ checkGives (file 13 e3 (group ++ right-step 0x03)) 10 8 1 3
+    -- A4: no use; one use; a use inside the K of a later wagon; the pair's own U keeps its own
+    ∷ stepGives (defined (0x00 ∷ []) (0x00 ∷ [])) 3 0 (0xaa ∷ 0xaa ∷ []) (answer 0 0 1 (0x00 ∷ 0xaa ∷ []))
+    ∷ stepGives (paired 0x01) 3 2 (0xaa ∷ 0xaa ∷ 0xaa ∷ 0xaa ∷ []) (answer 0 0 3 (0xff ∷ 0x00 ∷ 0x01 ∷ 0xaa ∷ []))
+    ∷ stepGives (0xff ∷ 0x00 ∷ 0xfe ∷ 0x01 ∷ 0xff ∷ 0x01 ∷ 0xfe ∷ 0x01 ∷ 0x01 ∷ []) 3 2 (times 6 (0xaa ∷ [])) (answer 0 0 5 (0xff ∷ 0x00 ∷ 0xfe ∷ 0x01 ∷ 0x01 ∷ 0xaa ∷ []))
+    -- A5: past the body; not at an applicator; no partner; and 14, tested last
+    ∷ stepGives (defined (0x00 ∷ []) (0x00 ∷ [])) 3 5 (0xaa ∷ []) (answer 10 0 0 (0xaa ∷ []))
+    ∷ stepGives (defined (0x00 ∷ []) (0x00 ∷ [])) 3 2 (0xaa ∷ []) (answer 10 0 0 (0xaa ∷ []))
+    ∷ stepGives (0xfe ∷ 0x00 ∷ 0xfe ∷ 0x00 ∷ 0x00 ∷ []) 3 0 (0xaa ∷ []) (answer 10 0 0 (0xaa ∷ []))
+    ∷ stepGives (paired 0x01) 3 2 (0xaa ∷ 0xaa ∷ []) (answer 14 0 0 (0xaa ∷ 0xaa ∷ []))
+    -- in a file: accepted, where it was 10 before
+    ∷ checkGives (file 13 inner (group ++ right-step 0x03)) 0 0 2 3
+    ∷ formerGives (file 13 inner (group ++ right-step 0x03)) 10 4 1 3
     ∷ []
 
 -- One fact: each call gives its answer.

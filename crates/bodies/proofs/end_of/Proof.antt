@@ -3,7 +3,7 @@
 use Prim.Native.Nat.{_-_, _≤_}
 use native.Mathlib.Omega.{arith}
 use Rattle.bodies.specs.Moving.{Ending}
-use Rattle.bodies.proofs.Lowering.{ending-next}
+use Rattle.bodies.proofs.Endings.{ending-next}
 use borrow.Author.Needs.{needs}
 use Rattle.bodies.proofs.end_of.Statement.{statement}
 use Rattle.bodies.proofs.end_of.Tie as tie

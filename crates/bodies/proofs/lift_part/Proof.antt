@@ -8,7 +8,7 @@ use mathlib.Core.List.{map}
 use Rattle.parts.specs.Parts.{part}
 use Rattle.letters.proofs.Letters.{lies-end}
 use Rattle.bodies.specs.Moving.{liftedLetter, LiftableLetter}
-use Rattle.bodies.proofs.Mapping.{Mapping, mapping-start, next-letter, mapping-next, mapping-end}
+use Rattle.bodies.proofs.Mapping.{Mapping, storing-end, mapping-start, next-letter, mapping-next}
 use Rattle.bodies.proofs.Lifting.{liftable-letter, lifts}
 use borrow.Author.Needs.{needs}
 use Rattle.bodies.proofs.lift_part.Statement.{statement}
@@ -22,24 +22,24 @@ abbrev μ-loop : tie.MeasureT-loop
 μ-loop s₀ from to c k h at low i₀ j₀ s i j = to - i
 
 mul-height-of : tie.Need-mul-height-of Inv-loop μ-loop
-mul-height-of c = omega (arith, lies-end (c .pre .lies), c .pre .array)
+mul-height-of c = omega (arith, lies-end (c .pre .liftable .lies), c .pre .liftable .array)
 
 element-copy-out-height-of : tie.Need-element-copy-out-height-of Inv-loop μ-loop
-element-copy-out-height-of c = omega (arith, lies-end (c .pre .lies), c .pre .array)
+element-copy-out-height-of c = omega (arith, lies-end (c .pre .liftable .lies), c .pre .liftable .array)
 
 loop-holds : tie.Need-loop-holds Inv-loop μ-loop
-loop-holds c = (mapping-start (lies-end (c .before .before .before .pre .lies) .1), omega arith, omega arith)
+loop-holds c = (mapping-start (lies-end (c .before .before .before .pre .liftable .lies) .1), omega arith, omega arith)
 
 mul-lifted-letter : tie.Need-mul-lifted-letter Inv-loop μ-loop
-mul-lifted-letter c = omega (arith, c .before .loop .inv .0 .inside, c .before .before .before .before .before .pre .array)
+mul-lifted-letter c = omega (arith, c .before .loop .inv .0 .storing .inside, c .before .before .before .before .before .pre .liftable .array)
 
 element-copy-out-lifted-letter : tie.Need-element-copy-out-lifted-letter Inv-loop μ-loop
-element-copy-out-lifted-letter c = omega (arith, c .before .loop .inv .0 .inside, c .before .before .before .before .before .pre .array)
+element-copy-out-lifted-letter c = omega (arith, c .before .loop .inv .0 .storing .inside, c .before .before .before .before .before .pre .liftable .array)
 
 lifted-letter-requires : tie.Need-lifted-letter-requires Inv-loop μ-loop
 lifted-letter-requires c κs = let w = c .before .before .loop .inv in
     subst (LiftableLetter _ _ _ _) (sym (next-letter (w .0) (c .before .loop-test .taken)))
-    (liftable-letter (c .before .before .before .before .before .before .pre) (c .before .before .before .narrow .ensures ∙ c .before .before .before .before .height-of .ensures .0) (w .1) (c .before .loop-test .taken))
+    (liftable-letter (c .before .before .before .before .before .before .pre .liftable) (c .before .before .before .narrow .ensures ∙ c .before .before .before .before .height-of .ensures .0) (w .1) (c .before .loop-test .taken))
 
 mul-s : tie.Need-mul-s Inv-loop μ-loop
 mul-s c = omega (arith, c .before .before .before .loop .inv, c .before .before .before .before .before .before .before .pre .fits)
@@ -55,7 +55,7 @@ loop-again c = let w = c .before .before .before .loop .inv in
     (mapping-next (w .0) (c .before .before .loop-test .taken) (inr (omega (arith, c .before .before .before .before .before .before .before .pre .past))) (c .lifted-letter .ensures), omega arith, omega arith)
 
 returns : tie.Need-returns Inv-loop μ-loop
-returns c = lifts (mapping-end (c .before .loop .inv .0) (c .loop-test .left)) (c .before .before .narrow .ensures ∙ c .before .before .before .height-of .ensures .0)
+returns c = lifts (storing-end (c .before .loop .inv .0 .storing) (c .loop-test .left)) (c .before .before .narrow .ensures ∙ c .before .before .before .height-of .ensures .0)
 
 pub lift-part-spec : {M : Type 1} → statement M
 lift-part-spec =

@@ -3,7 +3,7 @@
 use Prim.Native.Nat.{_-_, _≤_}
 use native.Mathlib.Omega.{arith}
 use Rattle.bodies.specs.Moving.{Ending}
-use Rattle.bodies.proofs.Lowering.{ending-four}
+use Rattle.bodies.proofs.Endings.{ending-four}
 use borrow.Author.Needs.{needs}
 use Rattle.bodies.proofs.skip_high.Statement.{statement}
 use Rattle.bodies.proofs.skip_high.Tie as tie

@@ -1,11 +1,11 @@
--- `bodies::uses` meets its contract: the loop is `Counting` of Lowering.antt.
+-- `steps::uses` meets its contract: the loop is `Counting` of Lowering.antt.
 -- Assumes nothing.
 use Prim.Native.Nat.{_-_}
 use native.Mathlib.Omega.{arith}
-use Rattle.bodies.proofs.Lowering.{Counting, counting-next, counting-end}
+use Rattle.steps.proofs.Lowering.{Counting, counting-next, counting-end}
 use borrow.Author.Needs.{needs}
-use Rattle.bodies.proofs.uses.Statement.{statement}
-use Rattle.bodies.proofs.uses.Tie as tie
+use Rattle.steps.proofs.uses.Statement.{statement}
+use Rattle.steps.proofs.uses.Tie as tie
 
 abbrev Inv-loop : tie.InvT-loop
 Inv-loop s from to c count₀ i₀ count i = Counting s from to c i count

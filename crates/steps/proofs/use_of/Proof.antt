@@ -1,10 +1,10 @@
--- `bodies::use_of` meets its contract.
+-- `steps::use_of` meets its contract.
 -- Assumes nothing.
 use native.Mathlib.Omega.{arith}
-use Rattle.bodies.proofs.Lowering.{use-there, use-missing}
+use Rattle.steps.proofs.Lowering.{use-there, use-missing}
 use borrow.Author.Needs.{needs}
-use Rattle.bodies.proofs.use_of.Statement.{statement}
-use Rattle.bodies.proofs.use_of.Tie as tie
+use Rattle.steps.proofs.use_of.Statement.{statement}
+use Rattle.steps.proofs.use_of.Tie as tie
 
 sub-if1 : tie.Need-sub-if1
 sub-if1 c = search needs

@@ -1,4 +1,4 @@
--- The letters of a lowered term, whether it uses the dropped variable, and the end of a term by heights.
+-- The letters of a lowered term, and whether it uses the dropped variable.
 -- Assumes nothing.
 use Prim.Native.Nat.{ℕ, suc, _+_, _-_, _≤_, _<_}
 use mathlib.Core.Path.{_≡_, refl, ap, ap₂, sym, _∙_}
@@ -23,7 +23,7 @@ use Rattle.parts.specs.Parts.{part}
 use Rattle.parts.proofs.Cut.{part-first, part-empty}
 use Rattle.letters.specs.Letters.{letter, letters, applicator, abstractor, symbolOf, depthOf, heightOf, Lies}
 use Rattle.letters.proofs.Letters.{letter-parts, symbol-letter, depth-letter, height-letter, lies-taken}
-use Rattle.bodies.specs.Moving.{Ending, loweredSymbol, loweredLetter, useOf, usesOf}
+use Rattle.steps.specs.Lowering.{loweredSymbol, loweredLetter, useOf, usesOf}
 
 -- ---- What lowering keeps.
 module _ (c : ℕ) (t u : Term) (e : lower c t ≡ some u) where
@@ -34,7 +34,7 @@ module _ (c : ℕ) (t u : Term) (e : lower c t ≡ some u) where
   lower-scope = rw (lower-sound c t u e) (sym (scope-lift 1 c u))
 
 -- ---- A symbol.
-lowered-zero : (r : ℕ) → loweredSymbol (suc r) 0 ≡ 0
+pub lowered-zero : (r : ℕ) → loweredSymbol (suc r) 0 ≡ 0
 unfolding loweredSymbol
 lowered-zero r = rw (lt-ltb 0 (suc r) (omega arith))
 
@@ -47,7 +47,7 @@ lowered-index r k l = rw (lt-ltb (liftIndex 1 r k) applicator l) (elim (cmp k r)
 
 -- ---- The letters of a term: lowering undoes a lift by 1.
 module _ (c : ℕ) where
-  lowered-letter : (x r z : ℕ) {y : ℕ} → x < 1024 → c + suc r < 1024 → loweredSymbol (suc r) x ≡ y → loweredLetter c (letter x (c + suc r) z) ≡ letter y (c + r) z
+  pub lowered-letter : (x r z : ℕ) {y : ℕ} → x < 1024 → c + suc r < 1024 → loweredSymbol (suc r) x ≡ y → loweredLetter c (letter x (c + suc r) z) ≡ letter y (c + r) z
   unfolding loweredLetter
   lowered-letter x r z a b q =
       let d : c + suc r - c ≡ suc r = omega arith in
@@ -169,33 +169,3 @@ module _ {s : List ℕ} {from to c i count : ℕ} (w : Counting s from to c i co
   pub counting-end : to ≤ i → count ≡ usesOf c (part s from to)
   unfolding usesOf
   counting-end l = omega (arith, w .sum, ap (usesOf c) (part-empty s i to l))
-
--- ---- The end of a term by heights.
-pub ending-next : {s : List ℕ} {i h j : ℕ} → Ending s j i h j → h ≤ heightOf (getD s j 0) → Ending s (j + 1) i h (j + 1)
-ending-next {j = j} w g = record {
-  after = omega (arith, w .after);
-  inside = omega arith;
-  high = λ x a b. elim (cmp j x) [
-    | lo u ↦ let e : x ≡ j = omega arith in rw e g
-    | hi u ↦ w .high x a u
-  ];
-  low = λ l. absurd (omega arith);
-}
-
--- Four letters at once: x is at most each of them, and high enough.
-pub ending-four : {s : List ℕ} {i h j x y z v : ℕ} → Ending s j i h j → v ≡ heightOf x → h ≤ v → (x ≤ y) × (x ≤ z) → (y ≤ getD s j 0) × (y ≤ getD s (j + 1) 0)
-    → (z ≤ getD s (j + 2) 0) × (z ≤ getD s (j + 3) 0) → Ending s (j + 4) i h (j + 4)
-ending-four {j = j} w e g a b c =
-    let two : j + 1 + 1 ≡ j + 2 = omega arith in
-    let three : j + 2 + 1 ≡ j + 3 = omega arith in
-    let four : j + 3 + 1 ≡ j + 4 = omega arith in
-    rw four at (ending-next (rw three at (ending-next (rw two at (ending-next (ending-next w (omega arith)) (omega arith))) (omega arith))) (omega arith))
-
-pub ending-is : {s : List ℕ} {n i h e r : ℕ} → Ending s n i h r → Ending s n i h e → r ≡ e
-ending-is {e = e} {r = r} a b = elim (cmp r e) [
-  | lo u ↦ elim (cmp e r) [
-    | lo v ↦ omega arith
-    | hi v ↦ absurd (omega (arith, a .low (omega (arith, b .inside)), b .high r (a .after) v))
-  ]
-  | hi u ↦ absurd (omega (arith, b .low (omega (arith, a .inside)), a .high e (b .after) u))
-]

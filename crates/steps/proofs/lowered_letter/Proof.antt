@@ -1,11 +1,11 @@
--- `bodies::lowered_letter` meets its contract: the symbol stays, or falls by 1 too.
+-- `steps::lowered_letter` meets its contract: the symbol stays, or falls by 1 too.
 -- Assumes nothing.
 use native.Mathlib.Omega.{arith}
 use mathlib.Core.Logic.{inl, inr}
-use Rattle.bodies.proofs.Lowering.{lowered-kept, lowered-fallen}
+use Rattle.steps.proofs.Lowering.{lowered-kept, lowered-fallen}
 use borrow.Author.Needs.{needs}
-use Rattle.bodies.proofs.lowered_letter.Statement.{statement}
-use Rattle.bodies.proofs.lowered_letter.Tie as tie
+use Rattle.steps.proofs.lowered_letter.Statement.{statement}
+use Rattle.steps.proofs.lowered_letter.Tie as tie
 
 sub-result : tie.Need-sub-result
 sub-result c = search needs

@@ -1,4 +1,4 @@
--- `bodies::lower_part` meets its contract: the loop is `Mapping` of Mapping.antt, each letter stored in its own place.
+-- `steps::lower_part` meets its contract: the loop is `Mapping` of Mapping.antt, each letter stored in its own place.
 -- Assumes nothing.
 use Prim.Native.Nat.{_-_, _≤_}
 use native.Mathlib.Omega.{arith}
@@ -7,11 +7,11 @@ use mathlib.Core.Logic.{inl}
 use mathlib.Core.List.{map}
 use Rattle.parts.specs.Parts.{part}
 use Rattle.letters.specs.Letters.{depthOf}
-use Rattle.bodies.specs.Moving.{loweredLetter}
-use Rattle.bodies.proofs.Mapping.{Mapping, mapping-start, next-letter, mapping-next, mapping-end}
+use Rattle.steps.specs.Lowering.{loweredLetter}
+use Rattle.bodies.proofs.Mapping.{Mapping, storing-end, mapping-start, next-letter, mapping-next}
 use borrow.Author.Needs.{needs}
-use Rattle.bodies.proofs.lower_part.Statement.{statement}
-use Rattle.bodies.proofs.lower_part.Tie as tie
+use Rattle.steps.proofs.lower_part.Statement.{statement}
+use Rattle.steps.proofs.lower_part.Tie as tie
 
 abbrev Inv-loop : tie.InvT-loop
 Inv-loop s₀ from to c i₀ s i = Mapping (loweredLetter c) s₀ s i to i from (map (loweredLetter c) (part s₀ from to)) × (from ≤ i)
@@ -29,7 +29,7 @@ loop-again : tie.Need-loop-again Inv-loop μ-loop
 loop-again c = let w = c .before .before .before .loop .inv in (mapping-next (w .0) (c .before .before .loop-test .taken) (inl (omega arith)) (c .lowered-letter .ensures), omega arith)
 
 returns : tie.Need-returns Inv-loop μ-loop
-returns c = mapping-end (c .before .loop .inv .0) (c .loop-test .left)
+returns c = storing-end (c .before .loop .inv .0 .storing) (c .loop-test .left)
 
 pub lower-part-spec : {M : Type 1} → statement M
 lower-part-spec =

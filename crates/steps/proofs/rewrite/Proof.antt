@@ -1,0 +1,36 @@
+-- `steps::rewrite` meets its contract: by the laws of Writing.antt.
+-- Assumes nothing.
+use native.Mathlib.Omega.{arith}
+use Rattle.steps.proofs.Writing.{fillable, movable, copyable, rewritten}
+use borrow.Author.Needs.{needs}
+use Rattle.steps.proofs.rewrite.Statement.{statement}
+use Rattle.steps.proofs.rewrite.Tie as tie
+
+fill-requires : tie.Need-fill-requires
+fill-requires c κs = fillable (c .before .before .before .pre .0) (c .before .before .before .pre .1)
+
+add-move-part : tie.Need-add-move-part
+add-move-part c = omega (arith, c .before .before .before .before .before .before .before .pre .0 .fits)
+
+move-part-requires : tie.Need-move-part-requires
+move-part-requires c κs = movable (c .before .before .before .before .before .before .before .pre .0)
+
+copy-start-requires : tie.Need-copy-start-requires
+copy-start-requires c κs = copyable (c .before .before .before .before .before .before .before .before .before .before .pre .0) (c .before .before .before .before .before .before .fill .ensures) (c .before .before .before .before .before .before .before .before .before .before .pre .1) (c .before .before .move-part .ensures)
+
+same-length : tie.Need-same-length
+same-length c = c .before .before .before .before .before .before .before .fill .ensures .same-length
+
+returns : tie.Need-returns
+returns c = rewritten (c .before .before .before .before .before .before .before .before .before .before .before .pre .0) (c .before .before .before .before .before .before .before .fill .ensures) (c .before .before .before .before .before .before .before .before .before .before .before .pre .1) (c .before .before .before .move-part .ensures) (c .copy-start .ensures)
+
+pub rewrite-spec : {M : Type 1} → statement M
+rewrite-spec =
+    tie.close
+    (tie.spec
+    fill-requires
+    add-move-part
+    move-part-requires
+    copy-start-requires
+    same-length
+    returns)
