@@ -1,4 +1,4 @@
-//! The check of a file on bytes, made fast: written from document 01, with the same answers as `reference`.
+//! The check of a file on bytes, made fast: written from documents 01 and 02, with the same answers as `reference`.
 //!
 //! Every term of a state is a piece of the file's term, so no term is copied in the walk. A piece is a place and an
 //! environment, which says for each abstractor of the text around the place which entry of R stands for it. Entries are
@@ -636,6 +636,7 @@ impl<'a, const COUNT: bool> Walk<'a, COUNT> {
             *n = match step[0] {
                 1 => self.local::<SIDE>(*n, depth, place)?,
                 2 => removal(&mut self.bodies[SIDE], *n, place, self.scopes)?,
+                3 => substitution(&mut self.bodies[SIDE], *n, depth, place, self.scopes)?,
                 _ => return Err(10),
             };
         }
@@ -827,4 +828,140 @@ fn removal(body: &mut [u8; MAX_TERM], n: usize, place: usize, scopes: &mut [u8; 
     }
     body.copy_within(rest..n, place);
     Ok(n - (rest - place))
+}
+
+/// Kind 3, after `depth` entries: the body's new length. One pass measures the uses, and one writes, with the text after the
+/// first use out of the way at the buffer's end. The first copy of K is the pattern of the others.
+#[inline(never)]
+fn substitution(
+    body: &mut [u8; MAX_TERM],
+    n: usize,
+    depth: usize,
+    place: usize,
+    scopes: &mut [u8; MAX_TERM],
+) -> Result<usize, u32> {
+    if body[place] != APPLICATOR {
+        return Err(10);
+    }
+    let middle = end_of(body, place + 1);
+    if body[middle] != ABSTRACTOR {
+        return Err(10);
+    }
+    let size = middle - (place + 1);
+    let rest = end_of(body, middle + 1);
+    let mut uses = 0;
+    let mut deepest = 0;
+    let mut first = rest;
+    let mut first_scope = 0;
+    let mut first_due = 0;
+    let mut scope = 1u8;
+    let mut due = 0;
+    // For the scopes due at the first use: no more items stand inside each other than half of the bytes.
+    let kept = MAX_TERM - 1 - (n - rest) / 2;
+    // Indices before the first use fall in this pass.
+    for i in rest..n {
+        let b = body[i & MASK];
+        if b >= APPLICATOR {
+            scopes[due & MASK] = scope + (b == ABSTRACTOR) as u8;
+            due += 1;
+            continue;
+        }
+        if b == scope {
+            if uses == 0 {
+                first = i;
+                first_scope = scope;
+                first_due = due;
+                scopes.copy_within(..due, kept);
+            }
+            uses += 1;
+            deepest = deepest.max(scope);
+        } else if uses == 0 && b > scope {
+            body[i & MASK] = b - 1;
+        }
+        if due == 0 {
+            break;
+        }
+        due -= 1;
+        scope = scopes[due & MASK];
+    }
+    let dropped = rest - place;
+    if uses == 0 {
+        body.copy_within(rest..n, place);
+        return Ok(n - dropped);
+    }
+    let length = n - dropped + uses * size - uses;
+    if length > MAX_TERM {
+        return Err(11);
+    }
+    // The text before the first use, then K, which had fe before it.
+    body[place..first].rotate_left(dropped);
+    let pattern = first - dropped;
+    body.copy_within(pattern + 1..pattern + 1 + size, pattern);
+    let mut from = MAX_TERM - (n - (first + 1));
+    body.copy_within(first + 1..n, from);
+    let scope_of_k = if uses == 1 {
+        copy_lifted(body, pattern, pattern, usize::from(first_scope) - 1, scopes)
+    } else {
+        lift_marked(body, pattern, size, first_scope - 1, scopes)
+    };
+    // Of one scope there is room in any case: the pair's own abstractor goes.
+    if scope_of_k > 1 && depth + find(body, place, 0).depth + usize::from(deepest) - 1 + scope_of_k > MAX_SCOPE {
+        return Err(11);
+    }
+    let mut to = pattern + size;
+    due = first_due;
+    while due > 0 {
+        due -= 1;
+        scope = scopes[(kept + due) & MASK];
+        let mut b = body[from & MASK];
+        while b >= APPLICATOR {
+            scopes[(kept + due) & MASK] = scope + (b == ABSTRACTOR) as u8;
+            due += 1;
+            body[to & MASK] = b;
+            to += 1;
+            from += 1;
+            b = body[from & MASK];
+        }
+        from += 1;
+        if b != scope {
+            body[to & MASK] = b - (b > scope) as u8;
+            to += 1;
+            continue;
+        }
+        let lift = scope.wrapping_sub(first_scope);
+        let (before, after) = body.split_at_mut(to);
+        let pattern = before[pattern..].iter().zip(&scopes[..size]);
+        for (o, (&b, &mark)) in after.iter_mut().zip(pattern) {
+            *o = b.wrapping_add(lift & mark);
+        }
+        to += size;
+    }
+    body.copy_within(from.., to);
+    Ok(length)
+}
+
+/// Lifts the term of `size` bytes by `n` in place, and marks its bytes in `scopes`, ff if lifted and else 0: its scope. The
+/// scopes of rests still to come stand after the marks.
+fn lift_marked(body: &mut [u8; MAX_TERM], at: usize, size: usize, n: u8, scopes: &mut [u8; MAX_TERM]) -> usize {
+    let mut scope = 0;
+    let mut deepest = 0;
+    let mut due = size;
+    for i in 0..size {
+        let b = body[at + i];
+        if b >= APPLICATOR {
+            scopes[i] = 0;
+            scopes[due] = scope + (b == ABSTRACTOR) as u8;
+            due += 1;
+            continue;
+        }
+        let mark = if b > scope { 0xff } else { 0 };
+        scopes[i] = mark;
+        body[at + i] = b.wrapping_add(n & mark);
+        if due > size {
+            due -= 1;
+            scope = scopes[due];
+            deepest = deepest.max(scope);
+        }
+    }
+    usize::from(deepest)
 }

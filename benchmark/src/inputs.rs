@@ -1,9 +1,9 @@
 //! The inputs, made by code: the same bytes in every run.
 
 use reference::file::Group;
-use reference::frame::{apply, Entry, Frame, Step, LOCAL, REMOVAL};
+use reference::frame::{apply, Entry, Frame, Step, LOCAL, REMOVAL, SUBSTITUTION};
 use reference::gen::{self, empty_groups, times};
-use reference::normaliser::{meet, possible_steps, Reduction};
+use reference::normaliser::{in_parts, meet, possible_steps, Pairs, Reduction};
 use reference::term::{abs, app, Term};
 use reference::walk::walk;
 
@@ -23,7 +23,7 @@ const fn refused(name: &'static str, what: &'static str, number: u32, make: fn()
     Input { name, what, number, make }
 }
 
-pub const ALL: [Input; 20] = [
+pub const ALL: [Input; 23] = [
     accepted("small", "small file (E3 of document 01)", small),
     accepted("book1", "book of 1 KB", || book(1023, 0, SHORT)),
     accepted("book2", "book of 2 KB", || book(2047, 0, SHORT)),
@@ -44,6 +44,9 @@ pub const ALL: [Input; 20] = [
     accepted("(5)", "(5) 222 removals from the front of 4,000 bytes, 89 times", || front_removals(222, 89)),
     accepted("(6)", "(6) a chain of 120 names at the end of 4,000 bytes", || chain_at_end(120, 70, 2)),
     accepted("(7)", "(7) 512 comparisons of 1,021 bytes, no step", || long_bodies(511, 512)),
+    accepted("whole", "book of relations, pairs by kind 3", || relations(Pairs::Whole)),
+    accepted("parts", "the same book, pairs by kinds 1 and 2", || relations(Pairs::InParts)),
+    accepted("(8)", "(8) 1,600 substitutions to 4,095 bytes", || substitutions(23, 177, 800)),
 ];
 
 fn joined(parts: &[&[u8]]) -> Vec<u8> {
@@ -111,6 +114,14 @@ fn read_name(text: &mut &[u8]) -> String {
 /// A book of at most this many bytes: numbers, functions on them, and proofs by one lemma. Definitions, applications and
 /// declarations in turn, with `primitive` declarations that apply nothing in each turn. The steps are those of an author.
 fn book(bytes: usize, primitive: usize, effort: Effort) -> Vec<u8> {
+    stepped(&book_term(bytes, primitive), |frame, type_of_k, u| {
+        let left = reduce(frame, type_of_k, effort.names, Pairs::InParts, last_name);
+        let right = reduce(frame, u, effort.names, Pairs::InParts, last_name);
+        meet(&left, &right, effort.far).expect("the sides meet")
+    })
+}
+
+fn book_term(bytes: usize, primitive: usize) -> Term {
     let mut text = String::from(
         "[nat:*][z:nat][s:[x:nat]nat][P:[x:nat]*][i:[x:nat][h:<x>P]<<x>s>P][b:<z>P]<z>[n0:nat]<b>[p0:<n0>P]",
     );
@@ -132,7 +143,7 @@ fn book(bytes: usize, primitive: usize, effort: Effort) -> Vec<u8> {
             let term = read_all(&longer);
             // Copied text needs some scopes more.
             if term.size() > bytes || term.deepest_scope(0) > 245 {
-                return stepped(&read_all(&text), effort);
+                return read_all(&text);
             }
             text = longer;
         }
@@ -155,13 +166,11 @@ struct Effort {
 const SHORT: Effort = Effort { names: 4, far: false };
 const LONG: Effort = Effort { names: 9, far: true };
 
-/// The file of a term, with steps found for each comparison.
-fn stepped(term: &Term, effort: Effort) -> Vec<u8> {
+/// The file of a term, with the left and right steps found for each comparison.
+fn stepped(term: &Term, find: impl Fn(&Frame, &Term, &Term) -> (Vec<Step>, Vec<Step>)) -> Vec<u8> {
     let mut groups = Vec::new();
     let (_, end) = walk(term, &mut |frame, type_of_k, u| {
-        let left = reduce(frame, type_of_k, effort.names);
-        let right = reduce(frame, u, effort.names);
-        let (left, right) = meet(&left, &right, effort.far).expect("the sides meet");
+        let (left, right) = find(frame, type_of_k, u);
         groups.push(group(left, right));
         groups.last().cloned()
     });
@@ -169,18 +178,31 @@ fn stepped(term: &Term, effort: Effort) -> Vec<u8> {
     gen::file(&term.bytes(), &groups)
 }
 
-/// The body's own pairs first, then the last name.
-fn reduce(frame: &Frame, body: &Term, names: usize) -> Reduction {
+/// Which of the local steps through the frame is taken next.
+type Name = fn(&Term, &[Step]) -> Option<Step>;
+
+fn last_name(_: &Term, steps: &[Step]) -> Option<Step> {
+    steps.last().copied()
+}
+
+/// The name defined last, in a body without abstractors.
+fn newest_name(body: &Term, steps: &[Step]) -> Option<Step> {
+    let bytes = body.bytes();
+    steps.iter().copied().min_by_key(|step| bytes[step.place])
+}
+
+/// The body's own pairs first, then names.
+fn reduce(frame: &Frame, body: &Term, names: usize, pairs: Pairs, name: Name) -> Reduction {
     let unnamed: Frame = frame.iter().map(|entry| Entry::Single(entry.u().clone())).collect();
     let mut reduction = Reduction { bodies: vec![body.clone()], steps: Vec::new() };
     let mut names = names;
     loop {
         let last = reduction.bodies.last().expect("there is a first body");
-        let own = possible_steps(&unnamed, last);
-        let step = match own.iter().find(|step| step.kind == REMOVAL).or(own.first()) {
+        let own = possible_steps(&unnamed, last, pairs);
+        let step = match own.iter().find(|step| step.kind != LOCAL).or(own.first()) {
             Some(&step) => step,
-            None => match possible_steps(frame, last).last() {
-                Some(&step) if names > 0 => {
+            None => match name(last, &possible_steps(frame, last, pairs)) {
+                Some(step) if names > 0 => {
                     names -= 1;
                     step
                 }
@@ -191,6 +213,35 @@ fn reduce(frame: &Frame, body: &Term, names: usize) -> Reduction {
         reduction.bodies.push(next);
         reduction.steps.push(step);
     }
+}
+
+/// A book of numbers n and proofs of <n><n><n><n>R, each from the one before by one lemma: the type that the lemma gives begins
+/// with a pair of eight uses. The pairs go whole, or each in its parts.
+fn relations(pairs: Pairs) -> Vec<u8> {
+    let of = |x: &str| format!("<{x}>").repeat(4);
+    let mut text = String::from("[nat:*][z:nat][s:[x:nat]nat][R:[u:nat][v:nat][w:nat][x:nat]*]");
+    text += &format!("[i:[x:nat][h:{}R]{}R][b:{}R]<z>[n0:nat]<b>[p0:{}R]", of("x"), of("<x>s"), of("z"), of("n0"));
+    for (last, i) in (1..117).enumerate() {
+        text += &format!("<<n{last}>s>[n{i}:nat]<<p{last}><n{last}>i>[p{i}:{}R]", of(&format!("n{i}")));
+    }
+    stepped(&read_all(&text), |frame, type_of_k, u| {
+        let left = reduce(frame, type_of_k, SHORT.names, Pairs::Whole, newest_name);
+        let right = reduce(frame, u, SHORT.names, Pairs::Whole, newest_name);
+        let (left_steps, right_steps) = meet(&left, &right, false).expect("the sides meet");
+        match pairs {
+            Pairs::Whole => (left_steps, right_steps),
+            Pairs::InParts => (all_in_parts(&left, &left_steps), all_in_parts(&right, &right_steps)),
+        }
+    })
+}
+
+/// The first steps of a reduction with each substitution in its parts.
+fn all_in_parts(reduction: &Reduction, steps: &[Step]) -> Vec<Step> {
+    let each = reduction.bodies.iter().zip(steps).map(|(body, step)| match step.kind {
+        SUBSTITUTION => in_parts(body, step.place).expect("there is a pair"),
+        _ => vec![*step],
+    });
+    each.flatten().collect()
 }
 
 // ---- Steps.
@@ -323,6 +374,25 @@ fn chain_at_end(names: usize, uses: usize, count: usize) -> Vec<u8> {
     let mut groups = empty_groups(names + 1);
     groups.push(group(vec![removal(0)], vec![]));
     groups.extend(vec![group(unfold_three(0, size), right); count]);
+    gen::file(&term, &groups)
+}
+
+/// [x:*][a:T][f:[y:T]*] and applications of f to a, where T is <D>[d:E][d][d]..* with `copies` times d, and D = [N]x of `size`
+/// bytes has the type E = [N]*. D is substituted on both sides.
+fn substitutions(copies: usize, size: usize, count: usize) -> Vec<u8> {
+    let n = gen::nested((size - 3) / 2);
+    let t = |x: u8| {
+        let mut bytes = joined(&[&[0xfe, 0xff], &n, &[x + 1, 0xff, 0xff], &n, &[0]]);
+        for d in 1..=copies as u8 {
+            bytes.extend([0xff, d]);
+        }
+        bytes.push(0);
+        bytes
+    };
+    let term = joined(&[&[0xff, 0, 0xff], &t(1), &[0xff, 0xff], &t(2), &[0], &applications(2, 1, count)]);
+    let steps = vec![Step { kind: SUBSTITUTION, place: 0 }];
+    let mut groups = empty_groups(2);
+    groups.extend(vec![group(steps.clone(), steps); count]);
     gen::file(&term, &groups)
 }
 

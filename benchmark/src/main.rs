@@ -12,6 +12,8 @@ mod inputs;
 
 use fast::{Answer, Space};
 use inputs::Input;
+use reference::file::read_fields;
+use reference::frame::SUBSTITUTION;
 use reference::gen::{self};
 use reference::rng::Rng;
 use reference::stack::on_large_stack;
@@ -57,6 +59,8 @@ fn agree(seed: u64, count: u64) {
     let mut rng = Rng::new(seed);
     let mut space = Box::new(Space::new());
     let mut numbers = [0; 15];
+    // Accepted files with a step of kind 3.
+    let mut whole = 0;
     for i in 0..count {
         let file = match i % 10 {
             0 => chains::chain_file(&mut rng),
@@ -72,8 +76,16 @@ fn agree(seed: u64, count: u64) {
             exit(1);
         }
         numbers[want.number as usize] += 1;
+        if let (0, Ok(fields)) = (want.number, read_fields(&file)) {
+            let mut steps = fields.groups.iter().flat_map(|group| group.left.iter().chain(&group.right));
+            whole += usize::from(steps.any(|step| step.kind == SUBSTITUTION));
+        }
     }
-    println!("{count} files agreed; answers 0 to 13: {:?}", &numbers[..14]);
+    println!("{count} files agreed; answers 0 to 13: {:?}; accepted with kind 3: {whole}", &numbers[..14]);
+    if count >= 100 && whole == 0 {
+        println!("MISSING accepted with kind 3");
+        exit(1);
+    }
 }
 
 // ---- Times.
@@ -126,11 +138,17 @@ fn benchmark(with_reference: bool) {
         );
     }
     println!("\nGrowth of a book's cost:");
-    let best = |name: &str| lines.iter().find(|line| line.input.name == name).expect("there are books").best;
+    let line = |name: &str| lines.iter().find(|line| line.input.name == name).expect("there are books");
+    let best = |name: &str| line(name).best;
     for (from, to, what) in [("book1", "book2", "1 to 2 KB"), ("book2", "book4", "2 to 4 KB")] {
         let growth = |which: usize| best(to)[which] as f64 / best(from)[which] as f64;
         println!("from {what}: proved {:.2}, cleared {:.2}, kept {:.2}", growth(PROVED), growth(CLEARED), growth(KEPT));
     }
+    let (whole, parts) = (line("whole"), line("parts"));
+    let of = |which: usize| whole.best[which] as f64 / parts.best[which] as f64;
+    let bytes = whole.file.len() as f64 / parts.file.len() as f64;
+    println!("\nA book with kind 3 against the same with kinds 1 and 2:");
+    println!("bytes {bytes:.2}; time: proved {:.2}, cleared {:.2}, kept {:.2}", of(PROVED), of(CLEARED), of(KEPT));
 }
 
 /// All implementations give one answer, with the number that the input is made for.

@@ -1,4 +1,5 @@
-//! Document 01's examples, and inputs just within a limit and just beyond it, each with its answer written out.
+//! Document 01's examples, the readings of kind 3, and inputs just within a limit and just beyond it, each with its answer
+//! written out.
 //!
 //! Every state's size is odd: an item counts 1 and a term, whose size is odd. So 8,192 bytes is no state's size, and 8,191 and
 //! 8,193 are the neighbours of that limit; 4,095 and 4,097 those of a compared body's. While B is the term's own text, R, W and
@@ -7,8 +8,8 @@
 
 use crate::call::{Call, Kind};
 use reference::file::Group;
-use reference::frame::{Step, LOCAL, REMOVAL};
-use reference::gen::{all_four, empty_groups, file, nested, stepped_copies, times};
+use reference::frame::{Step, LOCAL, REMOVAL, SUBSTITUTION};
+use reference::gen::{all_four, empty_groups, file, nested, stepped_copies, substituted_copies, substituted_scopes, times};
 use reference::rng::Rng;
 
 pub struct Named {
@@ -17,7 +18,7 @@ pub struct Named {
     /// What is expected; none for the answer 'none'.
     pub numbers: Option<[u64; 4]>,
     /// What stands at the start of the lent buffer after the call, where it is written out here.
-    pub written: Option<&'static [u8]>,
+    pub written: Option<Vec<u8>>,
 }
 
 /// The four numbers of a check.
@@ -48,9 +49,9 @@ impl Table {
     }
 
     /// The same with the result written out; it is accepted.
-    fn result(&mut self, name: &'static str, kind: Kind, term: &[u8], lent: usize, written: &'static [u8]) {
+    fn result(&mut self, name: &'static str, kind: Kind, term: &[u8], lent: usize, written: &[u8]) {
         self.bare(name, kind, term, lent, Some((0, 0, written.len() as u64)));
-        self.0.last_mut().expect("just added").written = Some(written);
+        self.0.last_mut().expect("just added").written = Some(written.to_vec());
     }
 }
 
@@ -69,6 +70,10 @@ fn local(place: usize) -> Vec<Step> {
 
 fn removal(place: usize) -> Vec<Step> {
     vec![Step { kind: REMOVAL, place }]
+}
+
+fn whole(place: usize) -> Vec<Step> {
+    vec![Step { kind: SUBSTITUTION, place }]
 }
 
 fn group(left: Vec<Step>, right: Vec<Step>) -> Group {
@@ -91,6 +96,8 @@ pub fn named() -> Vec<Named> {
     places(&mut table);
     frame_pairs(&mut table);
     bare(&mut table);
+    substitutions(&mut table);
+    substitutions_in_files(&mut table);
     table.0
 }
 
@@ -151,7 +158,7 @@ fn examples(t: &mut Table) {
     t.bare("a removal, no abstractor next", At(REMOVAL, 0), &[0xfe, 0, 0xfe, 0, 0xff, 0, 0], 8, Some((10, 0, 0)));
     t.result("a removal of all wagons", At(REMOVAL, 0), &[0xfe, 0, 0xff, 0, 0], 8, &[0]);
     let alone = [0xff, 0, 1];
-    for kind in [0, 3, 9, 255] {
+    for kind in [0, 4, 9, 255] {
         t.bare("an unknown kind", At(kind, 2), &alone, 4, Some((10, 0, 0)));
     }
     t.bare("no partner", At(LOCAL, 2), &alone, 4, Some((10, 0, 0)));
@@ -410,4 +417,122 @@ fn bare(t: &mut Table) {
     t.bare("a step at the length", Step(LOCAL, 5), &[0xfe, 0, 0xff, 0, 1], 5, Some((10, 0, 0)));
     t.bare("a step at 65,535", Step(LOCAL, 65_535), &[0xfe, 0, 0xff, 0, 1], 5, Some((10, 0, 0)));
     t.bare("a removal at 65,535", Step(REMOVAL, 65_535), &pair, 5, Some((10, 0, 0)));
+}
+
+/// Kind 3 on a bare term: the readings A1, A2, A4, A5 and A7, and the limits.
+fn substitutions(t: &mut Table) {
+    let at = |place: usize| Kind::Step(SUBSTITUTION, place as u16);
+    // K of 63 bytes and 63 uses: 4,097 bytes on the way.
+    let k = joined(&[&[0xfe; 31], &[0; 32]]);
+    let uses = joined(&[&[0xfe], &k, &[0xff, 0], &times(62, &[0xfe, 1]), &[1]]);
+    let result = joined(&[&times(62, &joined(&[&[0xfe], &k])), &k]);
+    t.result("A1: 4,097 bytes on the way", at(0), &uses, 5_000, &result);
+    t.result("A1: exact", at(0), &uses, 4_031, &result);
+    t.bare("A1: shorter", at(0), &uses, 4_030, Some((14, 0, 0)));
+    let before_last = joined(&[&[0xfe], &k, &[0xff, 0], &result[..62 * 64], &[1]]);
+    t.bare("A1: kind 1 at the last use", Kind::Step(LOCAL, before_last.len() as u16 - 1), &before_last, 5_000, Some((11, 0, 0)));
+    t.result("A1: kind 3 there", at(0), &before_last, 5_000, &result);
+
+    let deep = declarations(252);
+    let term = joined(&[&deep, &[0xfe, 0xff, 0, 0xfd, 0xff, 0, 1]]);
+    t.result("A2: 254 scopes and index 254 on the way", at(504), &term, 5_000, &joined(&[&deep, &[0xff, 0, 0xfd]]));
+    t.bare("A2: kind 1 there", Kind::Step(LOCAL, 510), &term, 5_000, Some((11, 0, 0)));
+    let k = joined(&[&declarations(253), &[0]]);
+    t.result("A2: a K with 253 scopes", at(0), &joined(&[&[0xfe], &k, &[0xff, 0, 1]]), 5_000, &k);
+
+    t.result("A4: no use", at(0), &[0xfe, 0, 0xff, 0, 0], 5, &[0]);
+    t.result("A4: K and U have an index like the pair's", at(2), &[0xff, 0, 0xfe, 1, 0xff, 1, 1], 7, &[0xff, 0, 1]);
+    let in_k = [0xff, 0, 0xfe, 1, 0xff, 1, 0xfe, 1, 1];
+    t.result("A4: a use in a later K", at(2), &in_k, 9, &[0xff, 0, 0xfe, 1, 1]);
+    t.result("no use, indices fall", at(2), &[0xff, 0, 0xfe, 1, 0xff, 1, 0xff, 2, 3], 9, &[0xff, 0, 0xff, 1, 2]);
+    // [τ]⟨K⟩[1] [1] ⟨[2]3⟩ [⟨2⟩3] 3 with K = [1]⟨1⟩2: K is lifted by the abstractors between, but not its bound index.
+    let k = |n: u8| [0xff, 1 + n, 0xfe, 1, 2 + n];
+    let all_over = joined(&[&[0xff, 0, 0xfe], &k(0), &[0xff, 1, 0xff, 1, 0xfe, 0xff, 2, 3, 0xff, 0xfe, 2, 3, 3]]);
+    let result = joined(&[&[0xff, 0, 0xff], &k(0), &[0xfe, 0xff], &k(1), &k(2), &[0xff, 0xfe], &k(1), &[2], &k(2)]);
+    t.result("uses in later U and K, at the end, under each other", at(2), &all_over, 40, &result);
+    // The pair inside a K, with text after it.
+    let inside = [0xff, 0, 0xfe, 0xfe, 1, 0xff, 1, 0xfe, 1, 2, 0xff, 1, 2];
+    t.result("a pair inside a K", at(3), &inside, 13, &[0xff, 0, 0xfe, 0xfe, 1, 1, 0xff, 1, 2]);
+
+    let trains = [0xff, 0, 0xfe, 1, 0xfe, 1, 0xff, 1, 1];
+    for place in [9, 10, 65_535] {
+        t.bare("A5: past the body", at(place), &trains, 9, Some((10, 0, 0)));
+    }
+    for place in [0, 1, 3, 5, 6, 7, 8] {
+        t.bare("A5: not fe", at(place), &trains, 9, Some((10, 0, 0)));
+    }
+    t.bare("A5: fe before fe", at(2), &trains, 9, Some((10, 0, 0)));
+    t.bare("A5: fe before a terminal", at(0), &[0xfe, 0, 0], 9, Some((10, 0, 0)));
+    t.result("A5: fe before ff", at(4), &trains, 9, &[0xff, 0, 0xfe, 1, 1]);
+    t.bare("no buffer", at(4), &trains, 0, Some((14, 0, 0)));
+    t.bare("on no term", at(0), &[0xfe, 0], 4, Some((3, 2, 0)));
+
+    // ⟨K⟩[τ] and uses, each a U: 23 times K of 177 bytes make 4,095, 16 times 255 make 4,097, both longer on the way.
+    let copies = |n: usize, size: usize| {
+        let uses: Vec<u8> = (1..=n as u8).flat_map(|d| [0xff, d]).collect();
+        joined(&[&[0xfe], &nested(size / 2), &[0xff, 0], &uses, &[0]])
+    };
+    t.bare("to 4,095 bytes, exact", at(0), &copies(23, 177), 4_095, Some((0, 0, 4_095)));
+    t.bare("to 4,095 bytes, shorter", at(0), &copies(23, 177), 4_094, Some((14, 0, 0)));
+    t.bare("to 4,097 bytes", at(0), &copies(16, 255), 5_000, Some((11, 0, 0)));
+    t.bare("to 4,097 bytes, no buffer", at(0), &copies(16, 255), 0, Some((11, 0, 0)));
+    let many = joined(&[&[0xfe], &nested(1_000), &[0xff, 0], &times(1_000, &[0xfe, 1]), &[1]]);
+    t.bare("to two million bytes", at(0), &many, 5_000, Some((11, 0, 0)));
+    let most = joined(&[&[0xfe, 0, 0xff, 0], &times(2_045, &[0xfe, 1]), &[1]]);
+    t.result("2,046 uses", at(0), &most, 5_000, &joined(&[&times(2_045, &[0xfe, 0]), &[0]]));
+    let nest = joined(&[&[0xfe, 0xff, 0, 1, 0xff, 0], &[0xff; 600], &[1], &[2; 600]]);
+    let result = joined(&[&[0xff; 600], &times(601, &[0xff, 0, 1])]);
+    t.result("601 uses in each other's U", at(0), &nest, 5_000, &result);
+    t.result("a K of 4,091 bytes", at(0), &joined(&[&[0xfe], &nested(2_045), &[0xff, 0, 1]]), 4_091, &nested(2_045));
+
+    // ⟨n abstractors, τ⟩[τ] 100 abstractors and the use: n + 100 scopes, one more on the way.
+    let deep = |n: usize| joined(&[&[0xfe], &declarations(n), &[0, 0xff, 0], &declarations(100), &[101]]);
+    t.bare("into 253 scopes, 254 on the way", at(0), &deep(153), 5_000, Some((0, 0, 507)));
+    t.bare("into 254 scopes", at(0), &deep(154), 5_000, Some((11, 0, 0)));
+    // ⟨126 abstractors, τ⟩[τ] n abstractors and 15 uses: n + 126 scopes, and 4,063 bytes if n is 127; on the way one scope and
+    // 256 bytes more.
+    let both = |n: usize| {
+        let uses = times(14, &[0xfe, n as u8 + 1]);
+        joined(&[&[0xfe], &declarations(126), &[0, 0xff, 0], &declarations(n), &uses, &[n as u8 + 1]])
+    };
+    t.bare("over both limits on the way alone", at(0), &both(127), 5_000, Some((0, 0, 4_063)));
+    t.bare("over the scopes at the end", at(0), &both(128), 5_000, Some((11, 0, 0)));
+}
+
+/// Kind 3 in files: A3, A6 and A7, and the limits of a compared body.
+fn substitutions_in_files(t: &mut Table) {
+    let e3 = [0xff, 0, 0xff, 1, 0xfe, 2, 0xff, 0, 0xfe, 2, 0xff, 1, 1];
+    t.check("A3: no pair of the frame", file(&e3, &[no_steps(), group(vec![], whole(0))]), (10, 8, 1, 3));
+
+    // [p:τ][a:p]⟨a⟩[⟨p⟩[q:τ]q]1: the type of a is p, and so is the U by one step.
+    let term = [0xff, 0, 0xff, 1, 0xfe, 1, 0xff, 0xfe, 2, 0xff, 0, 1, 1];
+    let right = |steps: Vec<Step>| file(&term, &[no_steps(), group(vec![], steps)]);
+    t.check("A7: one step in a file", right(whole(0)), (0, 0, 2, 3));
+    t.check("A7: its parts", right([local(4), removal(0)].concat()), (0, 0, 2, 3));
+    t.check("A7: none", right(vec![]), (12, 4, 1, 3));
+    t.check("A6: after a part", right([local(4), whole(0)].concat()), (0, 0, 2, 3));
+    t.check("A6: one step more", right([whole(0), whole(0)].concat()), (10, 4, 1, 3));
+    t.check("A6: one step more, past the body", right([whole(0), removal(1)].concat()), (10, 4, 1, 3));
+    for place in [1, 2, 3, 4] {
+        t.check("not fe", right(whole(place)), (10, 4, 1, 3));
+    }
+    for place in [5, 6, 65_535] {
+        t.check("past the body", right(whole(place)), (10, 4, 1, 3));
+    }
+    let left = |steps: Vec<Step>| file(&term, &[no_steps(), group(steps, whole(0))]);
+    t.check("no partner, on the left", left(whole(0)), (10, 4, 1, 3));
+
+    // Bodies of 4,095 and 4,097 bytes, of 253 scopes and 254, with the frame's; more on the way.
+    let copies = |n: usize, size: usize| {
+        let (term, groups) = substituted_copies(n, size);
+        file(&term, &groups)
+    };
+    t.check("bodies of 4,095 bytes", copies(23, 177), (0, 0, 3, 1));
+    t.check("a body of 4,097 bytes", copies(16, 255), (11, 3 + 2 * 255 + 3 + 32, 2, 1));
+    let scopes = |m: usize, n: usize| {
+        let (term, groups) = substituted_scopes(m, n);
+        file(&term, &groups)
+    };
+    t.check("bodies in 253 scopes", scopes(50, 201), (0, 0, 5, 1));
+    t.check("a body in 254 scopes", scopes(50, 202), (11, 3 + 2 * 101 + 2 * 202 + 7, 4, 1));
 }

@@ -2,11 +2,14 @@
 
 use crate::call::{Answer, Call, Kind};
 use reference::file::read_fields;
+use reference::frame::SUBSTITUTION;
 
 /// The last column is 'none'.
 const NUMBERS: usize = 16;
 const NAMES: [&str; 5] = ["term", "file", "type", "step", "check"];
 const BUCKETS: [&str; 5] = ["0", "1", "2-5", "6-20", "more"];
+/// The step calls of kind 3, and the checks of a file with a step of kind 3, each with the numbers that some must have.
+const OF_KIND_3: [(&str, &[usize]); 2] = [("step 3", &[0, 10, 11, 14]), ("with 3", &[0, 9, 10, 11, 12, 13])];
 
 #[derive(Clone, Default)]
 pub struct Tally {
@@ -14,6 +17,8 @@ pub struct Tally {
     /// Accepted files by comparisons.
     accepted: [u64; 5],
     with_steps: u64,
+    /// As in `OF_KIND_3`.
+    of_kind_3: [[u64; NUMBERS]; 2],
 }
 
 impl Tally {
@@ -25,7 +30,18 @@ impl Tally {
             Kind::Step(..) => 3,
             Kind::Check => 4,
         };
-        self.calls[row][answer.number().unwrap_or(NUMBERS - 1)] += 1;
+        let number = answer.number().unwrap_or(NUMBERS - 1);
+        self.calls[row][number] += 1;
+        let fields = match call.kind {
+            Kind::Check => read_fields(&call.input).ok(),
+            _ => None,
+        };
+        let steps = fields.iter().flat_map(|fields| &fields.groups).flat_map(|group| group.left.iter().chain(&group.right));
+        match call.kind {
+            Kind::Step(SUBSTITUTION, _) => self.of_kind_3[0][number] += 1,
+            Kind::Check if steps.clone().any(|step| step.kind == SUBSTITUTION) => self.of_kind_3[1][number] += 1,
+            _ => {}
+        }
         if let (Kind::Check, Some([0, _, comparisons, _])) = (call.kind, answer.numbers) {
             self.accepted[match comparisons {
                 0 => 0,
@@ -34,14 +50,13 @@ impl Tally {
                 6..=20 => 3,
                 _ => 4,
             }] += 1;
-            let fields = read_fields(&call.input).expect("an accepted file has its fields");
-            let steps = fields.groups.iter().any(|group| !group.left.is_empty() || !group.right.is_empty());
-            self.with_steps += u64::from(steps);
+            self.with_steps += u64::from(steps.count() > 0);
         }
     }
 
     pub fn add(&mut self, other: &Tally) {
-        for (mine, others) in self.calls.iter_mut().zip(other.calls) {
+        let rows = self.calls.iter_mut().chain(&mut self.of_kind_3);
+        for (mine, others) in rows.zip(other.calls.into_iter().chain(other.of_kind_3)) {
             for (mine, others) in mine.iter_mut().zip(others) {
                 *mine += others;
             }
@@ -61,7 +76,8 @@ impl Tally {
             print!(" {number:>7}");
         }
         println!(" {:>7}", "none");
-        for (name, row) in NAMES.iter().zip(self.calls) {
+        let of_kind_3 = OF_KIND_3.iter().map(|(name, _)| name).zip(self.of_kind_3);
+        for (name, row) in NAMES.iter().zip(self.calls).chain(of_kind_3) {
             print!("{name:<6}");
             for n in row {
                 print!(" {n:>7}");
@@ -75,7 +91,7 @@ impl Tally {
         println!("\naccepted files with steps: {}", self.with_steps);
     }
 
-    /// What no answer had, among the numbers, the comparisons of accepted files, and steps.
+    /// What no answer had, among the numbers, the comparisons of accepted files, steps, and the numbers of kind 3.
     pub fn missing(&self) -> Vec<String> {
         let mut missing = Vec::new();
         for number in 0..15 {
@@ -90,6 +106,9 @@ impl Tally {
         }
         if self.with_steps == 0 {
             missing.push("accepted with steps".into());
+        }
+        for ((name, numbers), row) in OF_KIND_3.iter().zip(self.of_kind_3) {
+            missing.extend(numbers.iter().filter(|number| row[**number] == 0).map(|number| format!("{name} number {number}")));
         }
         missing
     }

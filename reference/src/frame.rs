@@ -73,6 +73,7 @@ pub struct Step {
 
 pub const LOCAL: u8 = 1;
 pub const REMOVAL: u8 = 2;
+pub const SUBSTITUTION: u8 = 3;
 
 /// The body after the step; none if the kind is unknown, the place is past
 /// the body or the step's condition is unmet.
@@ -85,7 +86,16 @@ pub fn apply(frame: &Frame, body: &Term, step: Step) -> Option<Term> {
             let mut ks = frame.iter().map(Entry::k).collect();
             local(body, step.place, &mut ks, None)
         }
-        REMOVAL => removal(body, step.place),
+        REMOVAL => at_pair(body, step.place, without_pair),
+        SUBSTITUTION => {
+            if made(Mistake::MeasuredOnTheWay) {
+                let on_the_way = at_pair(body, step.place, pair_kept)?;
+                if body_outgrown(frame, &on_the_way) {
+                    return Some(on_the_way);
+                }
+            }
+            at_pair(body, step.place, substituted)
+        }
         _ => None,
     }
 }
@@ -133,20 +143,30 @@ fn local<'a>(
     }
 }
 
-/// The removal at `place` of `term`.
-fn removal(term: &Term, place: usize) -> Option<Term> {
+/// The term with its pair at `place` rewritten, by the pair's K and U and the
+/// rest after them.
+fn at_pair(
+    term: &Term,
+    place: usize,
+    rewrite: fn(&Term, &Term, &Term) -> Option<Term>,
+) -> Option<Term> {
     match term {
         Tau | Var(_) => None,
         App(item) => {
             let (k, rest) = item.parts();
             if place == 0 {
-                return without_pair(rest);
+                let Abs(next) = rest else {
+                    return None;
+                };
+                let (u, rest) = next.parts();
+                return rewrite(k, u, rest);
             }
             let inside = place - 1;
             if inside < k.size() {
-                Some(app(removal(k, inside)?, rest.clone()))
+                Some(app(at_pair(k, inside, rewrite)?, rest.clone()))
             } else {
-                Some(app(k.clone(), removal(rest, inside - k.size())?))
+                let rest = at_pair(rest, inside - k.size(), rewrite)?;
+                Some(app(k.clone(), rest))
             }
         }
         Abs(_) if place == 0 => None,
@@ -154,28 +174,39 @@ fn removal(term: &Term, place: usize) -> Option<Term> {
             let (u, rest) = item.parts();
             let inside = place - 1;
             if inside < u.size() {
-                Some(abs(removal(u, inside)?, rest.clone()))
+                Some(abs(at_pair(u, inside, rewrite)?, rest.clone()))
             } else {
-                Some(abs(u.clone(), removal(rest, inside - u.size())?))
+                let rest = at_pair(rest, inside - u.size(), rewrite)?;
+                Some(abs(u.clone(), rest))
             }
         }
     }
 }
 
-/// What is left of an applicator and `rest` after it, if they begin with a pair
-/// whose variable has no use.
-fn without_pair(rest: &Term) -> Option<Term> {
-    match rest {
-        Abs(item) => {
-            let (_, scope) = item.parts();
-            if scope.uses(1) {
-                None
-            } else if made(Mistake::RemovalKeepsIndices) {
-                Some(scope.clone())
-            } else {
-                Some(scope.without(1))
-            }
-        }
-        _ => None,
+/// The removal of a pair: what is left, if its variable has no use.
+fn without_pair(_: &Term, _: &Term, rest: &Term) -> Option<Term> {
+    if rest.uses(1) {
+        None
+    } else if made(Mistake::RemovalKeepsIndices) {
+        Some(rest.clone())
+    } else {
+        Some(rest.without(1))
     }
+}
+
+/// The whole substitution of a pair: what is left.
+fn substituted(k: &Term, u: &Term, rest: &Term) -> Option<Term> {
+    if made(Mistake::PairKept) {
+        return pair_kept(k, u, rest);
+    }
+    if made(Mistake::SubstitutionNeedsAUse) && !rest.uses(1) {
+        return None;
+    }
+    Some(rest.substituted(1, k))
+}
+
+/// A pair with every use of its variable replaced, before it is dropped.
+fn pair_kept(k: &Term, u: &Term, rest: &Term) -> Option<Term> {
+    let replaced = rest.substituted(1, k).lift(1);
+    Some(app(k.clone(), abs(u.clone(), replaced)))
 }

@@ -2,8 +2,10 @@
 //! terms and files at the limits.
 
 use crate::file::Group;
-use crate::frame::{type_of, type_of_variable, Entry, Frame, Step, LOCAL, REMOVAL};
-use crate::normaliser::{equivalent, groups_for, possible_steps, reduce, Order};
+use crate::frame::{type_of, type_of_variable, Entry, Frame, Step, LOCAL, REMOVAL, SUBSTITUTION};
+use crate::normaliser::{
+    equivalent, groups_for, in_parts, possible_steps, reduce, substitutions, Order, Pairs,
+};
 use crate::rng::Rng;
 use crate::term::{abs, app, read_term, Term, Term::*};
 
@@ -85,9 +87,42 @@ fn closed_after(rng: &mut Rng, size: usize, depth: u64) -> Term {
     }
 }
 
+/// A closed term with a pair whose variable is used all over the rest, seldom
+/// or not at all.
+fn pair_term(rng: &mut Rng) -> Term {
+    let mut size = |most: usize| 2 * rng.below(most) + 1;
+    let (of_k, of_u, of_rest) = (size(20), size(6), size(40));
+    let depth = *rng.pick(&[0, 1, 2, 3, 240]);
+    let k = closed_after(rng, of_k, depth);
+    let u = closed_after(rng, of_u, depth);
+    let rest = closed_after(rng, of_rest, depth + 1);
+    let of_four = rng.below(5);
+    let rest = with_uses(rng, &rest, 1, of_four);
+    (0..depth).fold(app(k, abs(u, rest)), |rest, _| abs(Tau, rest))
+}
+
+/// The term with about so many of four variables put to `index`, as it would
+/// stand before the term.
+fn with_uses(rng: &mut Rng, term: &Term, index: u64, of_four: usize) -> Term {
+    match term {
+        Var(_) if rng.below(4) < of_four => Var(index),
+        Tau | Var(_) => term.clone(),
+        App(item) => {
+            let (k, rest) = item.parts();
+            let k = with_uses(rng, k, index, of_four);
+            app(k, with_uses(rng, rest, index, of_four))
+        }
+        Abs(item) => {
+            let (u, rest) = item.parts();
+            let u = with_uses(rng, u, index, of_four);
+            abs(u, with_uses(rng, rest, index + 1, of_four))
+        }
+    }
+}
+
 /// A bare term for the calls that take one: text, closed term, or damaged.
 pub fn bare_term(rng: &mut Rng) -> Vec<u8> {
-    match rng.below(10) {
+    match rng.below(11) {
         0..=3 => {
             let size = 2 * rng.below(40) + 1;
             closed_term(rng, size).bytes()
@@ -99,18 +134,23 @@ pub fn bare_term(rng: &mut Rng) -> Vec<u8> {
             bytes
         }
         8 => limit_term(rng),
+        9 => pair_term(rng).bytes(),
         _ => (0..rng.below(8)).map(|_| odd_byte(rng)).collect(),
     }
 }
 
-/// A step for a bare term: a possible one, one near it, or any.
+/// A step for a bare term: a possible one, one near it, or any. For half of the
+/// terms with a pair it is a substitution.
 pub fn step_for(rng: &mut Rng, bytes: &[u8]) -> (u8, u16) {
     let steps = match read_term(bytes) {
-        Ok(term) => possible_steps(&Frame::new(), &term),
+        Ok(term) => match substitutions(&term) {
+            whole if !whole.is_empty() && rng.below(2) == 0 => whole,
+            _ => possible_steps(&Frame::new(), &term, Pairs::InParts),
+        },
         Err(_) => Vec::new(),
     };
     if steps.is_empty() || rng.below(4) == 0 {
-        let kind = *rng.pick(&[0, 1, 2, 3, 255]);
+        let kind = *rng.pick(&[0, 1, 2, 3, 4, 255]);
         let place = match rng.below(4) {
             0 => 65_535,
             1 => bytes.len() as u16,
@@ -121,7 +161,7 @@ pub fn step_for(rng: &mut Rng, bytes: &[u8]) -> (u8, u16) {
     let step = *rng.pick(&steps);
     match rng.below(10) {
         0 => (step.kind, step.place.wrapping_add(1) as u16),
-        1 => (3 - step.kind, step.place as u16),
+        1 => (*rng.pick(&[1, 2, 3]), step.place as u16),
         _ => (step.kind, step.place as u16),
     }
 }
@@ -320,10 +360,11 @@ impl Maker<'_> {
         if term.size() > LINE_BYTES {
             return term;
         }
-        match self.rng.below(6) {
+        match self.rng.below(7) {
             0 => {
                 // Somewhere on the way to its normal form.
-                let bodies = reduce(frame, &term, Order::RemovalFirst, self.rng).bodies;
+                let bodies =
+                    reduce(frame, &term, Order::RemovalFirst, Pairs::InParts, self.rng).bodies;
                 self.rng.pick(&bodies).clone()
             }
             1 => {
@@ -337,6 +378,21 @@ impl Maker<'_> {
                 Some(u) if u.size() <= LINE_BYTES => app(term, abs(u, Var(1))),
                 _ => term,
             },
+            3 => {
+                // With a definition of its own for a variable.
+                let index = self.any_index(frame);
+                let k = match frame[frame.len() - index as usize].k() {
+                    Some(k) if self.rng.below(2) == 0 => k.lift(index),
+                    _ => Var(index),
+                };
+                match type_of(frame, &k) {
+                    Some(u) if u.size() <= LINE_BYTES => {
+                        let named = self.fold(&term.lift(1), &Var(index + 1), 1);
+                        app(k, abs(u, named))
+                    }
+                    _ => term,
+                }
+            }
             _ => {
                 // With the name of a definition for its K.
                 let index = self.any_index(frame);
@@ -370,7 +426,7 @@ impl Maker<'_> {
 
     /// A correct term with this type, if one is found soon.
     fn inhabitant(&mut self, frame: &Frame, wanted: &Term, fuel: usize) -> Option<Term> {
-        let goal = reduce(frame, wanted, Order::RemovalFirst, self.rng);
+        let goal = reduce(frame, wanted, Order::RemovalFirst, Pairs::InParts, self.rng);
         let first = self.rng.below(frame.len().max(1));
         for i in 0..frame.len() {
             let index = 1 + ((first + i) % frame.len()) as u64;
@@ -531,7 +587,7 @@ pub fn damage_groups(rng: &mut Rng, groups: &mut Vec<Group>) {
                 &mut group.right
             };
             if steps.is_empty() {
-                let kind = *rng.pick(&[0, LOCAL, REMOVAL, 3]);
+                let kind = *rng.pick(&[0, LOCAL, REMOVAL, SUBSTITUTION, 4]);
                 steps.push(Step {
                     kind,
                     place: rng.below(12),
@@ -549,7 +605,7 @@ pub fn damage_groups(rng: &mut Rng, groups: &mut Vec<Group>) {
                 }
                 8 => steps[i].place = steps[i].place.wrapping_add(1) & 0xffff,
                 9 => steps[i].place = steps[i].place.wrapping_sub(1) & 0xffff,
-                10 => steps[i].kind = *rng.pick(&[0, 1, 2, 3, 255]),
+                10 => steps[i].kind = *rng.pick(&[0, 1, 2, 3, 4, 255]),
                 _ => {
                     let other = rng.below(steps.len());
                     steps.swap(i, other);
@@ -580,7 +636,7 @@ fn joined(parts: &[&[u8]]) -> Vec<u8> {
 
 /// A bare term at a limit.
 pub fn limit_term(rng: &mut Rng) -> Vec<u8> {
-    match rng.below(8) {
+    match rng.below(10) {
         // About 4,096 bytes: a train, a nest.
         0 => {
             let item = *rng.pick(&[0xfe, 0xff]);
@@ -623,10 +679,11 @@ pub fn limit_term(rng: &mut Rng) -> Vec<u8> {
                 &[0],
             ])
         }
-        // A step with about 253 in scope: ⟨K⟩[τ] n abstractors, use.
+        // A step with about 253 in scope: ⟨K⟩[τ] n abstractors, use. A
+        // substitution has one fewer than the local step.
         5 => {
             let m = rng.between(1, 250);
-            let n = (252 - m) + rng.between(0, 1);
+            let n = (252 - m) + rng.between(0, 2);
             joined(&[
                 &[0xfe],
                 &times(m, &[0xff, 0]),
@@ -639,6 +696,37 @@ pub fn limit_term(rng: &mut Rng) -> Vec<u8> {
         6 => {
             let n = rng.between(1, 2047);
             joined(&[&vec![0xff; n], &[0], &vec![1; n]])
+        }
+        // A substitution to about 4,096 bytes: ⟨[V]v⟩[τ] and uses, each a U or a
+        // K, where v means [V] or a [τ] before. The form on the way is longer.
+        7 => {
+            let (copies, size) = *rng.pick(&[(23, 177), (89, 45), (22, 185), (66, 61), (16, 255)]);
+            let uses = match rng.below(2) {
+                0 => abstracted(1, copies),
+                _ => times(copies, &[0xfe, 1]),
+            };
+            let before = rng.below(2);
+            joined(&[
+                &times(before, &[0xff, 0]),
+                &[0xfe, 0xff],
+                &nested((size - 3) / 2),
+                &[1 + before as u8, 0xff, 0],
+                &uses,
+                &[0],
+            ])
+        }
+        // A substitution of a large K, or at many uses, to many more bytes.
+        8 => {
+            let size = 2 * rng.between(0, 1000) + 1;
+            let uses = (4095 - 4 - size) / 2;
+            let uses = rng.between(0, uses.min(20_000 / size));
+            joined(&[
+                &[0xfe],
+                &closed_term(rng, size).bytes(),
+                &[0xff, 0],
+                &times(uses, &[0xfe, 1]),
+                &[1],
+            ])
         }
         _ => {
             let size = 2 * rng.between(200, 2047) + 1;
@@ -659,8 +747,13 @@ fn deep_train(rng: &mut Rng) -> Vec<u8> {
     }
 }
 
+/// [d][d].. with so many times d, which has this index before them.
+fn abstracted(first: u8, copies: usize) -> Vec<u8> {
+    (0..copies as u8).flat_map(|i| [0xff, first + i]).collect()
+}
+
 /// How many sorts of files at a limit there are.
-pub const LIMIT_SORTS: usize = 18;
+pub const LIMIT_SORTS: usize = 20;
 
 /// A file at a limit.
 pub fn limit_file(rng: &mut Rng) -> Vec<u8> {
@@ -922,6 +1015,20 @@ pub fn limit_file_of(rng: &mut Rng, sort: usize) -> Vec<u8> {
             let (term, groups) = all_four(n, k);
             file(&term, &groups)
         }
+        // Compared body over the bytes by a substitution, or on its way only: 23
+        // copies of 177 bytes make 4,095, 16 of 255 make 4,097, others lie near.
+        17 => {
+            let (copies, size) = *rng.pick(&[(23, 177), (89, 45), (22, 185), (16, 255), (7, 583)]);
+            let (term, groups) = substituted_copies(copies, size);
+            substituted_file(rng, &term, groups)
+        }
+        // Compared body over the scopes by a substitution, or on its way only.
+        18 => {
+            let m = rng.between(3, 120);
+            let n = 250 - m + rng.below(3);
+            let (term, groups) = substituted_scopes(m, n);
+            substituted_file(rng, &term, groups)
+        }
         // About 253 abstractors in the term itself.
         _ => file(&deep_train(rng), &[]),
     }
@@ -969,11 +1076,7 @@ fn with_groups(rng: &mut Rng, term: &[u8], n: usize) -> Vec<u8> {
 /// same type; every D is replaced on both sides.
 pub fn stepped_copies(copies: usize, size: usize) -> (Vec<u8>, Vec<Group>) {
     let v = nested((size - 3) / 2);
-    let uses = |first: u8| -> Vec<u8> {
-        let mut bytes: Vec<u8> = (0..copies as u8).flat_map(|i| [0xff, first + i]).collect();
-        bytes.push(0);
-        bytes
-    };
+    let uses = |first: u8| joined(&[&abstracted(first, copies), &[0]]);
     let term = joined(&[
         &[0xff, 0, 0xfe, 0xff],
         &v,
@@ -995,6 +1098,88 @@ pub fn stepped_copies(copies: usize, size: usize) -> (Vec<u8>, Vec<Group>) {
     groups[1].left = steps.clone();
     groups[1].right = steps;
     (term, groups)
+}
+
+/// Under [x:τ] a declaration of ⟨D⟩[E][d][d]..τ with `copies` times the pair's
+/// variable d, where D = [V]x of `size` bytes has the type E = [V]τ, and a
+/// definition of the same type; D is substituted on both sides.
+pub fn substituted_copies(copies: usize, size: usize) -> (Vec<u8>, Vec<Group>) {
+    let v = nested((size - 3) / 2);
+    let declared = |x: u8| {
+        joined(&[
+            &[0xfe, 0xff],
+            &v,
+            &[x + 1, 0xff, 0xff],
+            &v,
+            &[0],
+            &abstracted(1, copies),
+            &[0],
+        ])
+    };
+    let mut groups = empty_groups(3);
+    groups[2] = both(SUBSTITUTION);
+    (declared_and_defined(declared), groups)
+}
+
+/// Under [x:τ] a declaration of ⟨D⟩[τ] n abstractors and the pair's variable,
+/// where D = ⟨m abstractors, x⟩[m abstractors, τ]x is of type τ after a removal,
+/// and a definition of the same type; D is substituted on both sides, to
+/// 2 + m + n scopes.
+pub fn substituted_scopes(m: usize, n: usize) -> (Vec<u8>, Vec<Group>) {
+    let deep = times(m, &[0xff, 0]);
+    let declared = |x: u8| {
+        joined(&[
+            &[0xfe, 0xfe],
+            &deep,
+            &[m as u8 + x, 0xff],
+            &deep,
+            &[0, x + 1, 0xff, 0],
+            &times(n, &[0xff, 0]),
+            &[n as u8 + 1],
+        ])
+    };
+    let mut groups = empty_groups(5);
+    for i in [1, 3] {
+        groups[i].left = both(REMOVAL).left;
+    }
+    groups[4] = both(SUBSTITUTION);
+    (declared_and_defined(declared), groups)
+}
+
+/// [x:τ][z:T]⟨z⟩[T]τ, where T is given by the index of x before it.
+fn declared_and_defined(t: impl Fn(u8) -> Vec<u8>) -> Vec<u8> {
+    joined(&[&[0xff, 0, 0xff], &t(1), &[0xfe, 1, 0xff], &t(2), &[0]])
+}
+
+/// A step of this kind at the first byte of both sides.
+fn both(kind: u8) -> Group {
+    let step = vec![Step { kind, place: 0 }];
+    Group {
+        head: 0,
+        left: step.clone(),
+        right: step,
+    }
+}
+
+/// The file of [x:τ][z:T]⟨z⟩[T]τ, whose last group has the substitution at T's
+/// first byte; sometimes one side has it in parts, or a group is damaged.
+fn substituted_file(rng: &mut Rng, term: &[u8], mut groups: Vec<Group>) -> Vec<u8> {
+    let parts = match read_term(term) {
+        Ok(Abs(x)) => match x.parts().1 {
+            Abs(z) => in_parts(z.parts().0, 0),
+            _ => None,
+        },
+        _ => None,
+    };
+    let parts = parts.expect("T begins with a pair");
+    let last = groups.len() - 1;
+    match rng.below(8) {
+        0 => groups[last].left = parts,
+        1 => groups[last].right = parts,
+        2 => damage_groups(rng, &mut groups),
+        _ => {}
+    }
+    file(term, &groups)
 }
 
 /// Under [x:τ] a chain of definitions, each a name for the one before, a

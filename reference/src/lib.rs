@@ -1,7 +1,7 @@
 //! A reference implementation of the checker of document 01 ("Delta-Lambda
-//! checking with supplied reductions"), written for clarity: terms are trees
-//! that keep their size, the lists are lifted literally and every state is
-//! measured anew.
+//! checking with supplied reductions") with document 02's kind 3, written for
+//! clarity: terms are trees that keep their size, the lists are lifted literally
+//! and every state is measured anew.
 
 pub mod file;
 pub mod frame;
@@ -21,6 +21,7 @@ use refusal::*;
 use stack::on_large_stack;
 use std::ops::Range;
 use term::{read_term, Term};
+use walk::{walk_by, Apply};
 
 #[derive(Clone, Copy, PartialEq, Eq, Debug)]
 pub struct TermAnswer {
@@ -156,6 +157,11 @@ pub fn apply_step(bytes: &[u8], kind: u8, place: u16, buffer: &mut [u8]) -> Step
 
 /// Checks a file.
 pub fn check(bytes: &[u8]) -> CheckAnswer {
+    check_by(apply, bytes)
+}
+
+/// Checks a file with the steps of `apply`.
+pub fn check_by(apply: Apply, bytes: &[u8]) -> CheckAnswer {
     on_large_stack(|| {
         let (fields, term) = match read_file(bytes) {
             Ok(read) => read,
@@ -170,7 +176,7 @@ pub fn check(bytes: &[u8]) -> CheckAnswer {
         };
         let degree = term.degree();
         let mut unused = fields.groups.iter();
-        let (comparisons, end) = walk::walk(&term, &mut |_, _, _| unused.next().cloned());
+        let (comparisons, end) = walk_by(apply, &term, &mut |_, _, _| unused.next().cloned());
         let end = match (end, unused.next()) {
             (Ok(()), Some(group)) => refuse(GROUPS_LEFT, group.head),
             (end, _) => end,

@@ -21,11 +21,21 @@ pub enum Mistake {
     StateLimit,
     /// A buffer that is too short gets the start of the result.
     ShortBufferWritten,
+    /// A substitution lifts K by one less.
+    SubstitutionLiftsLess,
+    /// A substitution is refused if there is no use.
+    SubstitutionNeedsAUse,
+    /// A substitution leaves K and U of later items as they are.
+    UsesInItemsForgotten,
+    /// A substitution does not drop the pair.
+    PairKept,
+    /// A substitution is measured before the pair is dropped too.
+    MeasuredOnTheWay,
 }
 
 use Mistake::*;
 
-pub const MISTAKES: [Mistake; 8] = [
+pub const MISTAKES: [Mistake; 13] = [
     WaitingNotLifted,
     TakesFromWFirst,
     OutgrownAfterTheRule,
@@ -34,6 +44,11 @@ pub const MISTAKES: [Mistake; 8] = [
     LiftsBoundIndices,
     StateLimit,
     ShortBufferWritten,
+    SubstitutionLiftsLess,
+    SubstitutionNeedsAUse,
+    UsesInItemsForgotten,
+    PairKept,
+    MeasuredOnTheWay,
 ];
 
 #[cfg(not(feature = "mistakes"))]

@@ -221,6 +221,27 @@ impl Term {
         }
     }
 
+    /// The term with the abstractor that index `index` would mean gone, and
+    /// `k` for each variable that means it. `k` stands as before that
+    /// abstractor, so that it is lifted by the others between alone.
+    pub fn substituted(&self, index: u64, k: &Term) -> Term {
+        let inside = |inner: &Term| match made(Mistake::UsesInItemsForgotten) {
+            false => inner.substituted(index, k),
+            true => inner.clone(),
+        };
+        match self {
+            _ if self.reach() < index => self.clone(),
+            Tau => Tau,
+            Var(own) if *own == index => {
+                let fewer = u64::from(made(Mistake::SubstitutionLiftsLess));
+                k.lift((index - 1).saturating_sub(fewer))
+            }
+            Var(own) => Var(own - 1),
+            App(item) => app(inside(&item.inner), item.rest.substituted(index, k)),
+            Abs(item) => abs(inside(&item.inner), item.rest.substituted(index + 1, k)),
+        }
+    }
+
     /// The degree of a closed term.
     pub fn degree(&self) -> u64 {
         self.degree_after(&mut Vec::new())

@@ -21,10 +21,20 @@ struct Waiting {
 /// Gives the group for a comparison: told the frame, the type of K and U.
 pub type Supply<'a> = dyn FnMut(&Frame, &Term, &Term) -> Option<Group> + 'a;
 
+/// What a step does to a body after the frame: `apply`, or what a test puts
+/// in its place.
+pub type Apply = fn(&Frame, &Term, Step) -> Option<Term>;
+
 /// Walks over a closed term from empty R and W. Gives the number of
 /// comparisons completed and how the walk ended.
 pub fn walk(term: &Term, supply: &mut Supply) -> (usize, Result<(), Refusal>) {
+    walk_by(apply, term, supply)
+}
+
+/// The walk with the steps of `apply`.
+pub fn walk_by(apply: Apply, term: &Term, supply: &mut Supply) -> (usize, Result<(), Refusal>) {
     let mut walk = Walk {
+        apply,
         supply,
         comparisons: 0,
     };
@@ -33,6 +43,7 @@ pub fn walk(term: &Term, supply: &mut Supply) -> (usize, Result<(), Refusal>) {
 }
 
 struct Walk<'a, 'b> {
+    apply: Apply,
     supply: &'a mut Supply<'b>,
     comparisons: usize,
 }
@@ -147,28 +158,34 @@ impl Walk<'_, '_> {
         if body_outgrown(r, &type_of_k) || body_outgrown(r, u) {
             return refuse(OUTGROWN, place);
         }
-        let left = replay(r, type_of_k, &group.left, place)?;
-        let right = replay(r, u.clone(), &group.right, place)?;
+        let left = self.replay(r, type_of_k, &group.left, place)?;
+        let right = self.replay(r, u.clone(), &group.right, place)?;
         if left != right {
             return refuse(BODIES_DIFFER, place);
         }
         self.comparisons += 1;
         Ok(())
     }
-}
 
-/// The body after all the steps.
-fn replay(r: &Frame, mut body: Term, steps: &[Step], place: usize) -> Result<Term, Refusal> {
-    for &step in steps {
-        match apply(r, &body, step) {
-            None => return refuse(BAD_STEP, place),
-            Some(next) => body = next,
+    /// The body after all the steps.
+    fn replay(
+        &self,
+        r: &Frame,
+        mut body: Term,
+        steps: &[Step],
+        place: usize,
+    ) -> Result<Term, Refusal> {
+        for &step in steps {
+            match (self.apply)(r, &body, step) {
+                None => return refuse(BAD_STEP, place),
+                Some(next) => body = next,
+            }
+            if body_outgrown(r, &body) {
+                return refuse(OUTGROWN, place);
+            }
         }
-        if body_outgrown(r, &body) {
-            return refuse(OUTGROWN, place);
-        }
+        Ok(body)
     }
-    Ok(body)
 }
 
 fn end_at_tau(w: &[Waiting]) -> Result<(), Refusal> {

@@ -5,7 +5,8 @@ use common::*;
 use reference::file::read_fields;
 use reference::gen::*;
 use reference::rng::Rng;
-use reference::normaliser::groups_for;
+use reference::frame::{apply, body_outgrown, Frame, Step, REMOVAL, SUBSTITUTION};
+use reference::normaliser::{groups_for, in_parts, substitutions};
 use reference::refusal::*;
 use reference::stack::on_large_stack;
 use reference::term::{read_term, Term};
@@ -97,6 +98,112 @@ fn steps_of_texts() {
             done += 1;
         }
         assert!(done > 200);
+    });
+}
+
+/// What kind 3 is by document 02: local steps at all uses, from left to right,
+/// then kind 2; with every form on the way.
+fn substituted_in_parts(frame: &Frame, body: &Term, place: usize) -> Option<Vec<Term>> {
+    let mut forms = vec![body.clone()];
+    for step in in_parts(body, place)? {
+        forms.push(apply(frame, &forms[forms.len() - 1], step)?);
+    }
+    Some(forms)
+}
+
+/// The same step by step where the step is of kind 3.
+fn apply_in_parts(frame: &Frame, body: &Term, step: Step) -> Option<Term> {
+    match step.kind {
+        SUBSTITUTION => substituted_in_parts(frame, body, step.place)?.pop(),
+        _ => apply(frame, body, step),
+    }
+}
+
+/// A checker that knows kinds 1 and 2 only.
+fn apply_kinds_1_and_2(frame: &Frame, body: &Term, step: Step) -> Option<Term> {
+    match step.kind {
+        SUBSTITUTION => None,
+        _ => apply(frame, body, step),
+    }
+}
+
+/// At the pairs of generated terms kind 3 is its parts, limits aside, and the
+/// step calls agree with that where no form on the way outgrows; elsewhere
+/// kinds 2 and 3 are both refused.
+#[test]
+fn substitution_is_its_parts() {
+    on_large_stack(|| {
+        let mut rng = Rng::new(303);
+        let empty = Frame::new();
+        let (mut whole, mut longer, mut refused) = (0, 0, 0);
+        for _ in 0..1500 {
+            let bytes = bare_term(&mut rng);
+            let Ok(term) = read_term(&bytes) else {
+                continue;
+            };
+            let pairs = substitutions(&term);
+            for place in (0..=term.size()).filter(|_| term.size() < 100 || rng.below(200) == 0) {
+                let own = apply(&empty, &term, Step { kind: SUBSTITUTION, place });
+                let removed = apply(&empty, &term, Step { kind: REMOVAL, place });
+                if !pairs.iter().any(|step| step.place == place) {
+                    assert_eq!((own, removed, in_parts(&term, place)), (None, None, None));
+                    refused += 1;
+                }
+            }
+            for &step in pairs.iter().take(5) {
+                let own = apply(&empty, &term, step).unwrap();
+                let forms = substituted_in_parts(&empty, &term, step.place).unwrap();
+                assert_eq!(forms.last(), Some(&own), "{step:?} {bytes:02x?}");
+                let (a, buffer) = stepped(&bytes, 3, step.place as u16, 5000);
+                assert_eq!(a.0 == OUTGROWN, body_outgrown(&empty, &own));
+                if a.0 == 0 {
+                    assert_eq!(buffer[..a.2], own.bytes());
+                }
+                if forms.iter().any(|form| body_outgrown(&empty, form)) {
+                    longer += usize::from(a.0 == 0);
+                    continue;
+                }
+                let mut last = bytes.clone();
+                for part in in_parts(&term, step.place).unwrap() {
+                    let (a, mut buffer) = stepped(&last, part.kind, part.place as u16, 5000);
+                    assert_eq!(a.0, 0);
+                    buffer.truncate(a.2);
+                    last = buffer;
+                }
+                assert_eq!(last, own.bytes());
+                whole += 1;
+            }
+        }
+        assert!(whole > 500 && longer > 5 && refused > 500, "{whole} {longer} {refused}");
+    });
+}
+
+/// A file is checked alike with kind 3 done in its parts, and, if it has no
+/// kind 3, by a checker that does not know it.
+#[test]
+fn files_with_and_without_substitutions() {
+    on_large_stack(|| {
+        let mut rng = Rng::new(304);
+        let (mut with, mut without) = ([0; 15], [0; 15]);
+        for i in 0..2500 {
+            let bytes = match i % 5 {
+                0 => limit_file_of(&mut rng, 17 + i / 5 % 2),
+                _ => random_file(&mut rng),
+            };
+            let a = check(&bytes);
+            let groups = read_fields(&bytes).map_or(Vec::new(), |fields| fields.groups);
+            let mut steps = groups.iter().flat_map(|group| group.left.iter().chain(&group.right));
+            if steps.any(|step| step.kind == SUBSTITUTION) {
+                assert_eq!(check_by(apply_in_parts, &bytes), a, "{bytes:02x?}");
+                with[usize::from(a.number)] += 1;
+            } else {
+                assert_eq!(check_by(apply_kinds_1_and_2, &bytes), a, "{bytes:02x?}");
+                without[usize::from(a.number)] += 1;
+            }
+        }
+        for number in [0, 9, 10, 11, 12, 13] {
+            assert!(with[number] > 0 && without[number] > 0, "{with:?} {without:?}");
+        }
     });
 }
 
@@ -224,10 +331,10 @@ fn limits() {
                 seen[usize::from(check(&limit_file_of(&mut rng, sort)).number)] += 1;
             }
             match sort {
-                2..=10 | 15 | 16 => {
+                2..=10 | 15..=18 => {
                     assert!(seen[11] > 0 && seen[11] < 20, "sort {sort}: {seen:?}");
                 }
-                17 => assert!(seen[6] > 0 && seen[6] < 20, "sort {sort}: {seen:?}"),
+                19 => assert!(seen[6] > 0 && seen[6] < 20, "sort {sort}: {seen:?}"),
                 11 | 13 => assert!(seen[4] > 0 && seen[4] < 20, "sort {sort}: {seen:?}"),
                 _ => {}
             }

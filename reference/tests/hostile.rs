@@ -159,6 +159,13 @@ fn deepest_nesting() {
     let term = [vec![0xfe; 2045], hex("fe 00 ff 00 00"), vec![0; 2045]].concat();
     assert_eq!(term.len(), 4095);
     assert_eq!(stepped(&term, 2, 2045, 4096).0, (0, 0, 4091));
+    assert_eq!(stepped(&term, 3, 2045, 4096).0, (0, 0, 4091));
+    // As many uses as fit, and a K as large as fits: to two million bytes.
+    let term = [hex("fe 00 ff 00"), times(2045, &hex("fe 01")), hex("01")].concat();
+    let result = [times(2045, &hex("fe 00")), hex("00")].concat();
+    assert_eq!(stepped(&term, 3, 0, 4091), ((0, 0, 4091), result));
+    let term = [vec![0xfe], nested(1000), hex("ff 00"), times(1000, &hex("fe 01")), hex("01")].concat();
+    assert_eq!(stepped(&term, 3, 0, 5000), ((11, 0, 0), untouched(5000)));
     // Half a term: it does not end.
     assert_eq!(examined(&[0xff; 4096]), (3, 4096, 0));
     assert_eq!(examined(&[0xfe; 4095]), (3, 4095, 0));

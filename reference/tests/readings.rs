@@ -1,4 +1,4 @@
-//! The readings of points that document 01 leaves open, by their number.
+//! The readings of points that documents 01 and 02 leave open, by their number.
 
 mod common;
 use common::*;
@@ -268,9 +268,10 @@ fn reading_11_order_in_a_comparison() {
 fn reading_12_place_past_the_body() {
     let term = hex("fe 00 ff 00 00");
     assert_eq!(stepped(&term, 2, 0, 5).0, (0, 0, 1));
+    assert_eq!(stepped(&term, 3, 0, 5).0, (0, 0, 1));
     for kind in 0..=255 {
         assert_eq!(stepped(&term, kind, 5, 5), ((10, 0, 0), untouched(5)));
-        if kind != 2 {
+        if kind != 2 && kind != 3 {
             assert_eq!(stepped(&term, kind, 0, 5), ((10, 0, 0), untouched(5)));
         }
     }
@@ -360,4 +361,127 @@ fn reading_16_accepted_place_and_refused_part() {
         file_examined(&file_hex(&hex("fe 00 00"), EMPTY_GROUP)),
         (0, 0, 3..6)
     );
+}
+
+// ---------------------------------------------------------------- kind 3
+
+/// The step call of kind 3 into a buffer longer than any result.
+fn substituted(term: &[u8], place: u16) -> ((u8, usize, usize), Vec<u8>) {
+    let (a, mut buffer) = stepped(term, 3, place, 5000);
+    assert!(buffer.drain(a.2..).all(|byte| byte == 0xaa));
+    (a, buffer)
+}
+
+fn substituted_hex(term: &str, place: u16) -> ((u8, usize, usize), Vec<u8>) {
+    substituted(&hex(term), place)
+}
+
+#[test]
+fn reading_a1_size_on_the_way() {
+    // K of 63 bytes, 63 uses.
+    let k = [vec![0xfe; 31], vec![0; 32]].concat();
+    let term = [vec![0xfe], k.clone(), hex("ff 00"), times(62, &hex("fe 01")), vec![1]].concat();
+    let result = [times(62, &[vec![0xfe], k.clone()].concat()), k.clone()].concat();
+    assert_eq!(result.len(), 4031);
+    assert_eq!(substituted(&term, 0), ((0, 0, 4031), result));
+    // Kind 1 at each use: at the last there would be 4,097 bytes.
+    let mut body = term;
+    for i in 0..62 {
+        let place = (66 + 64 * i + 1) as u16;
+        let (a, buffer) = stepped(&body, 1, place, 5000);
+        assert_eq!(a, (0, 0, body.len() + 62));
+        body = buffer[..a.2].to_vec();
+    }
+    let last = body.len() as u16 - 1;
+    assert_eq!(stepped(&body, 1, last, 5000), ((11, 0, 0), untouched(5000)));
+}
+
+#[test]
+fn reading_a2_scopes_on_the_way() {
+    let deep = times(252, &[0xff, 0]);
+    let term = [deep.clone(), hex("fe ff 00 fd ff 00 01")].concat();
+    let result = [deep, hex("ff 00 fd")].concat();
+    assert_eq!(substituted(&term, 504), ((0, 0, 507), result));
+    assert_eq!(stepped(&term, 1, 510, 5000).0, (11, 0, 0));
+    let k = [times(253, &[0xff, 0]), vec![0]].concat();
+    let term = [vec![0xfe], k.clone(), hex("ff 00 01")].concat();
+    assert_eq!(substituted(&term, 0), ((0, 0, 507), k));
+    // One scope more in the final form.
+    let term = [hex("fe"), times(253, &[0xff, 0]), hex("00 ff 00 ff 00 02")].concat();
+    assert_eq!(substituted(&term, 0).0, (11, 0, 0));
+}
+
+#[test]
+fn reading_a3_pairs_of_the_body_only() {
+    let term = "ff 00 ff 01 fe 02 ff 00 fe 02 ff 01 01";
+    let groups = |kind: &str| format!("{EMPTY_GROUP} 02 00 00 03 00 03 {kind} 00 00");
+    assert_eq!(check_hex(term, &groups("01")), (0, 0, 2, 3));
+    assert_eq!(check_hex(term, &groups("03")), (10, 8, 1, 3));
+}
+
+#[test]
+fn reading_a4_uses() {
+    assert_eq!(substituted_hex("fe 00 ff 00 00", 0), ((0, 0, 1), hex("00")));
+    assert_eq!(
+        substituted_hex("ff 00 fe 01 ff 01 01", 2),
+        ((0, 0, 3), hex("ff 00 01"))
+    );
+    assert_eq!(
+        substituted_hex("ff 00 fe 01 ff 01 fe 01 01", 2),
+        ((0, 0, 5), hex("ff 00 fe 01 01"))
+    );
+    // Inside later K and U, each under its own abstractors:
+    // [τ]⟨1⟩[1] [1] ⟨[3]3⟩ [⟨2⟩3] 3 is [τ] [1] ⟨[2]3⟩ [⟨2⟩2] 3.
+    assert_eq!(
+        substituted_hex("ff 00 fe 01 ff 01 ff 01 fe ff 02 03 ff fe 02 03 03", 2),
+        ((0, 0, 13), hex("ff 00 ff 01 fe ff 02 03 ff fe 02 02 03"))
+    );
+}
+
+#[test]
+fn reading_a5_refused() {
+    let term = hex("ff 00 fe 01 fe 01 ff 01 01");
+    assert_eq!(substituted(&term, 4).0, (0, 0, 5));
+    // Byte: ff, variables. No partner: fe before fe. Place: at the length.
+    for place in [0, 1, 3, 5, 6, 7, 8, 2, 9, 10, 65_535] {
+        assert_eq!(substituted(&term, place).0, (10, 0, 0));
+    }
+    // fe before a terminal.
+    assert_eq!(substituted_hex("fe 00 00", 0).0, (10, 0, 0));
+    assert_eq!(stepped(&term, 4, 4, 5), ((10, 0, 0), untouched(5)));
+    // Still used: for kind 2 alone.
+    assert_eq!(stepped(&hex("fe 00 ff 00 01"), 2, 0, 5).0, (10, 0, 0));
+    assert_eq!(substituted_hex("fe 00 ff 00 01", 0), ((0, 0, 1), hex("00")));
+}
+
+#[test]
+fn reading_a7_in_files() {
+    // [p:τ][a:p]⟨a⟩[⟨p⟩[q:τ]q]1: the type of a is p, and so is the U by one step.
+    let term = "ff 00 ff 01 fe 01 ff fe 02 ff 00 01 01";
+    let with = |steps: &str| format!("{EMPTY_GROUP} 02 00 00 {steps}");
+    assert_eq!(check_hex(term, &with("03 00 03 03 00 00")), (0, 0, 2, 3));
+    assert_eq!(check_hex(term, &with("03 00 06 01 00 04 02 00 00")), (0, 0, 2, 3));
+    assert_eq!(check_hex(term, &with("03 00 00")), (12, 4, 1, 3));
+    // The body is then one byte, a variable.
+    assert_eq!(check_hex(term, &with("03 00 06 03 00 00 03 00 00")), (10, 4, 1, 3));
+    assert_eq!(check_hex(term, &with("03 00 06 03 00 00 03 00 01")), (10, 4, 1, 3));
+}
+
+/// A body of 4,095 bytes, and one of 4,097; 253 scopes, and 254.
+#[test]
+fn kind_3_limits_of_a_compared_body() {
+    let copies = |n: usize, size: usize| {
+        let (term, groups) = gen::substituted_copies(n, size);
+        checked(&gen::file(&term, &groups))
+    };
+    assert_eq!(copies(23, 177), (0, 0, 3, 1));
+    let declared = 2 * 255 + 3 + 32;
+    assert_eq!(copies(16, 255), (11, 3 + declared, 2, 1));
+    let scopes = |m: usize, n: usize| {
+        let (term, groups) = gen::substituted_scopes(m, n);
+        checked(&gen::file(&term, &groups))
+    };
+    assert_eq!(scopes(50, 201), (0, 0, 5, 1));
+    let declared = 2 + 101 + 1 + 101 + 1 + 2 + 2 * 202 + 1;
+    assert_eq!(scopes(50, 202), (11, 3 + declared, 4, 1));
 }
