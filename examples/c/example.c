@@ -102,6 +102,12 @@ int main(void)
     numbers("then removal at 4", answer, 3);
     bytes(removed, sizeof removed);
 
+    /* Both at once: the whole substitution. */
+    memset(removed, 0xaa, sizeof removed);
+    bijterne_apply_step(term, sizeof term, 3, 4, removed, sizeof removed, answer);
+    numbers("whole substitution at 4", answer, 3);
+    bytes(removed, sizeof removed);
+
     write_type("type of E1", e1, sizeof e1, 8);
     write_type("type of E1 into 4 bytes", e1, sizeof e1, 4);
     write_type("type of tau", tau, sizeof tau, 4);

@@ -98,7 +98,8 @@ pub fn write_type(term: &[u8], out: &mut [u8]) -> Option<Written> {
     (none == 0).then(|| written(a))
 }
 
-/// Applies one step to a bare term, with an empty frame, and writes the result to the start of `out`.
+/// Applies one step to a bare term, with an empty frame, and writes the result to the start of `out`. `kind` is 1 (local), 2
+/// (removal) or 3 (the whole substitution: every use of a pair's variable is replaced, and the pair removed).
 pub fn apply_step(term: &[u8], kind: u8, place: u16, out: &mut [u8]) -> Written {
     let mut a = [0; 3];
     // SAFETY: as above.

@@ -77,6 +77,11 @@ fn main() {
     let a = apply_step(&local[..a.length], 2, 4, &mut removed);
     println!("then removal at 4: {},{}", numbers(a), bytes(&removed));
 
+    // Both at once: the whole substitution.
+    let mut whole = [0xaa; 12];
+    let a = apply_step(TERM, 3, 4, &mut whole);
+    println!("whole substitution at 4: {},{}", numbers(a), bytes(&whole));
+
     show_type("type of E1", E1, 8);
     show_type("type of E1 into 4 bytes", E1, 4);
     show_type("type of tau", TAU, 4);
