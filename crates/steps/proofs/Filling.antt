@@ -1,7 +1,7 @@
 -- The rest of a pair with K for each use: the letters of the substitution, their number and their scope.
 -- Assumes nothing.
-use Prim.Native.Nat.{ℕ, zero, suc, _+_, _-_, _*_, _≤_, _<_, max}
-use mathlib.Core.Path.{_≡_, refl, ap, ap₂, sym, subst, _∙_}
+use Prim.Native.Nat.{ℕ, suc, _+_, _-_, _*_, _≤_, _<_, max}
+use mathlib.Core.Path.{_≡_, refl, ap, ap₂, sym, _∙_}
 use mathlib.Core.Bool.{Bool, true, false, cond}
 use mathlib.Core.List.{List, [], _∷_, _++_, map, append-assoc, append-nil}
 use native.Mathlib.Omega.{arith}
@@ -10,10 +10,10 @@ use native.Mathlib.Numerals.{add-one}
 use lib.Dec.{eqb}
 use lib.ListN.{length, length-append, length-map}
 use borrow.Author.Tests.{lt-ltb, le-ltb, eq-eqb, ne-eqb}
-use Rattle.calculus.specs.Terms.{Term, tau, var, app, abs, lift}
+use Rattle.calculus.specs.Terms.{Term, var}
 use Rattle.calculus.specs.Steps.{substituteVar, substitute}
 use Rattle.calculus.proofs.Lift.{lo, hi, cmp}
-use Rattle.calculus.proofs.Substitute.{Use, below, used, above, use-of, var-below, var-used, var-above}
+use Rattle.calculus.proofs.Substitute.{below, used, above, use-of, var-below, var-used, var-above}
 use Rattle.code.specs.Code.{Coded, coded-tau, coded-var, coded-app, coded-abs}
 use Rattle.code.specs.Scope.{scope}
 use Rattle.code.proofs.Scope.{scope-lift}
@@ -33,12 +33,14 @@ module _ (c low : ℕ) (v : List ℕ) where
       let d : c + suc r - c ≡ suc r = omega arith in
       rw (symbol-letter x (c + suc r) z a, depth-letter x (c + suc r) z a b, d, ne-eqb x (suc r) n) (ap (_∷ []) (lowered-letter c x r z a b q))
 
+  lifted-by : (k r z : ℕ) → k ≡ r → map (liftedLetter c k z low) v ≡ map (liftedLetter c r z low) v
+  lifted-by k r z e = ap (λ i. map (liftedLetter c i z low) v) e
+
   use-letter : (r z : ℕ) → suc r < 1024 → c + suc r < 1024 → filledLetter c low v (letter (suc r) (c + suc r) z) ≡ map (liftedLetter c r z low) v
   unfolding filledLetter
   use-letter r z a b =
       let d : c + suc r - c ≡ suc r = omega arith in
-      let e : c + suc r - 1 - c ≡ r = omega arith in
-      rw (symbol-letter (suc r) (c + suc r) z a, depth-letter (suc r) (c + suc r) z a b, height-letter (suc r) (c + suc r) z a b, d, e, eq-eqb (suc r) (suc r) refl) refl
+      rw (symbol-letter (suc r) (c + suc r) z a, depth-letter (suc r) (c + suc r) z a b, height-letter (suc r) (c + suc r) z a b, d, eq-eqb (suc r) (suc r) refl) (lifted-by _ r z (omega arith))
 
   filled-append : (a b : List ℕ) → filled c low v (a ++ b) ≡ filled c low v a ++ filled c low v b
   unfolding filled

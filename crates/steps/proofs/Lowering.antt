@@ -21,7 +21,7 @@ use Rattle.code.specs.Scope.{scope}
 use Rattle.code.proofs.Scope.{scope-lift}
 use Rattle.parts.specs.Parts.{part}
 use Rattle.parts.proofs.Cut.{part-first, part-empty}
-use Rattle.letters.specs.Letters.{letter, letters, applicator, abstractor, symbolOf, depthOf, heightOf, Lies}
+use Rattle.letters.specs.Letters.{letter, letters, applicator, abstractor, symbolOf, depthOf, Lies}
 use Rattle.letters.proofs.Letters.{letter-parts, symbol-letter, depth-letter, height-letter, lies-taken}
 use Rattle.steps.specs.Lowering.{loweredSymbol, loweredLetter, useOf, usesOf}
 

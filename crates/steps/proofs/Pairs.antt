@@ -24,7 +24,7 @@ use Rattle.bodies.specs.declared.Form.the-variants.{Refused}
 use Rattle.bodies.proofs.Ways.{step-along}
 use Rattle.bodies.proofs.Extents.{Parts, app-parts, abs-parts, above}
 use Rattle.bodies.proofs.Endings.{ending-is}
-use Rattle.bodies.proofs.Splitting.{There, head-height}
+use Rattle.bodies.proofs.Splitting.{head-height}
 use Rattle.bodies.proofs.Places.{At, at-way}
 use Rattle.bodies.proofs.Meaning.{way-there, index-small}
 use Rattle.steps.specs.Lowering.{InScope}

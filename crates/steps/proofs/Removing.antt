@@ -24,7 +24,7 @@ use Rattle.bodies.specs.Moving.{Mapped, Spliced}
 use Rattle.bodies.specs.declared.Form.the-variants.{Refused, Length}
 use Rattle.bodies.proofs.Places.{put-held}
 use Rattle.steps.specs.Lowering.{loweredLetter, usesOf}
-use Rattle.steps.specs.Pairs.{InSomeBody, PairLies, PairAt, Searches}
+use Rattle.steps.specs.Pairs.{InSomeBody, PairAt, Searches}
 use Rattle.steps.specs.declared.Pair.{Pair}
 use Rattle.steps.proofs.Lowering.{lowered-lies, uses-none, uses-some, lower-size, lower-scope}
 use Rattle.steps.proofs.Pairs.{removal-here, rest-few, pair-of-body}

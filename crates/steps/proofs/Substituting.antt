@@ -1,24 +1,23 @@
 -- The whole substitution: the rest of the pair, with K for each use, takes the pair's place; and the steps that are none.
 -- Assumes nothing.
 use Prim.Native.Nat.{ℕ, suc, _+_, _-_, _≤_, _<_}
-use mathlib.Core.Path.{_≡_, refl, ap, sym, subst, _∙_}
+use mathlib.Core.Path.{_≡_, refl, ap, subst, _∙_}
 use mathlib.Core.Option.{none, some}
 use mathlib.Core.List.{List}
 use native.Mathlib.Omega.{arith}
-use lib.ListN.{length, getD}
+use lib.ListN.{length}
 use borrow.Author.Tests.{ne-eqb}
 use Rattle.calculus.specs.Terms.{Term, app, abs, size}
 use Rattle.calculus.specs.Frames.{Frame, depth}
-use Rattle.calculus.specs.Steps.{Kind, local, removal, whole, full, kindIn, unknown-kind, past-end, reached, refused, mapOutcome, substitute, substitutePair, stepHere, stepOf, stepBy, step}
+use Rattle.calculus.specs.Steps.{Kind, local, removal, whole, full, kindIn, unknown-kind, past-end, reached, mapOutcome, substitute, substitutePair, stepHere, stepOf, stepBy, step}
 use Rattle.calculus.proofs.Lift.{lo, hi, cmp}
 use Rattle.calculus.proofs.Closed.{closedness}
 use Rattle.calculus.proofs.Places.{step-past}
 use Rattle.code.specs.Limits.{longestTerm, mostAbstractors}
 use Rattle.code.specs.Scope.{scope}
-use Rattle.parts.specs.Parts.{part}
 use Rattle.frames.specs.declared.FrameRecord.{FrameRecord}
 use Rattle.frames.proofs.Laws.{stored-depth}
-use Rattle.letters.specs.Letters.{letters, heightOf}
+use Rattle.letters.specs.Letters.{letters}
 use Rattle.letters.proofs.Letters.{length-letters, lies-taken}
 use Rattle.bodies.specs.Ways.{put, depthAt, heightAt}
 use Rattle.bodies.specs.Held.{Held, reasonNumber, SteppedAs, step-refused, step-reached, Steps}
@@ -27,12 +26,12 @@ use Rattle.bodies.specs.declared.Form.{Form}
 use Rattle.bodies.specs.declared.Form.the-variants.{Refused, Outgrown, Length}
 use Rattle.bodies.proofs.Extents.{first-height}
 use Rattle.bodies.proofs.Places.{too-long, too-deep, put-held}
-use Rattle.steps.specs.Pairs.{InBodyAfter, PairLies, SomePair, PairAt, Searches}
-use Rattle.steps.specs.Filling.{filled, filling, deepestUse, DepthIs, Rewritable}
+use Rattle.steps.specs.Pairs.{InBodyAfter, SomePair, PairAt, Searches}
+use Rattle.steps.specs.Filling.{filling, deepestUse, Rewritable}
 use Rattle.steps.specs.declared.Pair.{Pair}
 use Rattle.steps.proofs.Pairs.{whole-here, bounds, pair-of-body, some-pair, rest-few, argument-few}
 use Rattle.steps.proofs.Filling.{filled-rest, rest-most, rest-least}
-use Rattle.steps.proofs.Writing.{size-is, size-small}
+use Rattle.steps.proofs.Writing.{DepthIs}
 
 -- ---- A step of kind 3 on the pair.
 module _ {W : List ℕ} {f : FrameRecord} {s : List ℕ} {n p : ℕ} {R : Frame} {t : Term} {x : Pair} (y : Held W f s n R t) (o : PairAt s n p R t x) where
@@ -90,9 +89,6 @@ module _ {len : ℕ} {s : List ℕ} {n p : ℕ} (g : InBodyAfter len s n p) wher
         (omega (arith, o .lies .rest .place, o .lies .place), o .inside, omega (arith, bounds (g .some-body)))
 
     module _ {r : ℕ} (q : r ≡ length (filling s p x)) where
-      pub filled-small : r ≤ 16781312
-      filled-small = omega (arith, size-is the-pair refl, size-small the-pair refl, kept-inside)
-
       pub long : longestTerm < n - (x .end - p) + r → (w : List ℕ) (f : FrameRecord) → f .len ≡ len → Steps w f s s n (record { kind = 3; place = p }) Outgrown
       long h w f l = record { all = λ R t y. longer y (pair-of-body (g .some-body) c e y) q h; same-length = refl }
 

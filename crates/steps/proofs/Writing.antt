@@ -1,18 +1,16 @@
 -- The letters of a whole substitution, written into an array of their own and then into the body.
 -- Assumes nothing.
 use Prim.Native.Nat.{ℕ, suc, _+_, _-_, _*_, _≤_, _<_, max}
-use mathlib.Core.Path.{_≡_, refl, ap, ap₂, sym, subst, _∙_}
+use mathlib.Core.Path.{_≡_, refl, ap, sym, subst, _∙_}
 use mathlib.Core.Bool.{Bool, true, false, cond}
 use mathlib.Core.List.{List, [], _∷_, _++_, map}
 use native.Mathlib.Omega.{arith}
-use native.Mathlib.Nat.{add-zero, add-suc, suc-add, zero-add, sub-zero, mul-le-mul}
-use native.Mathlib.Numerals.{add-one}
+use native.Mathlib.Nat.{add-zero, add-suc, suc-add, sub-zero, mul-le-mul}
 use lib.ListN.{length, getD, set, take, drop, length-append, length-map, length-set}
 use lib.Seq.{sets, take-at}
 use lib.Dec.{eqb}
 use borrow.Author.Tests.{eq-eqb, ne-eqb}
-use Rattle.calculus.specs.Terms.{Term, size}
-use Rattle.calculus.proofs.Lift.{lo, hi, cmp}
+use Rattle.calculus.specs.Terms.{Term}
 use Rattle.code.specs.Limits.{longestTerm, mostAbstractors}
 use Rattle.code.specs.Scope.{scope}
 use Rattle.code.proofs.RoundTrip.{odd}
@@ -26,12 +24,13 @@ use Rattle.bodies.proofs.Extents.{above, under, first-height}
 use Rattle.bodies.proofs.Places.{splice}
 use Rattle.steps.specs.Lowering.{loweredLetter, useOf, usesOf}
 use Rattle.steps.specs.Pairs.{PairLies, SomePair}
-use Rattle.steps.specs.Filling.{filledLetter, filled, fillingOf, filling, useDepth, deepestUse, DepthIs, LetterFillable, LetterFills, Fillable, Fills, Rewritable}
+use Rattle.steps.specs.Filling.{filledLetter, filled, fillingOf, filling, useDepth, deepestUse, UsesAre, LetterFillable, LetterFills, Fillable, Fills, Rewritable}
 use Rattle.steps.specs.declared.Pair.{Pair}
-use Rattle.steps.proofs.Pairs.{rest-few, argument-few, in-scope}
+use Rattle.steps.proofs.Lowering.{Counting, counting-end}
+use Rattle.steps.proofs.Pairs.{rest-few, argument-few}
 use Rattle.steps.proofs.Filling.{length-letter, filled-length}
 
--- ---- The deepest use: the loop.
+-- ---- How often and how deep the variable is used: the loop.
 pub use-deeper : (c x : ℕ) → symbolOf x ≡ depthOf x - c → depthOf x ≡ useDepth c x
 unfolding useDepth
 use-deeper c x q = rw (eq-eqb (symbolOf x) (depthOf x - c) q)
@@ -57,11 +56,15 @@ module _ {s : List ℕ} {from to c i most : ℕ} (w : Deepening s from to c i mo
   unfolding deepestUse
   deepening-next l n q = record { small = omega (arith, w .small, depth-small c (getD s i 0)); result = omega (arith, w .result, ap (deepestUse c) (part-first s i to l n)) }
 
-  pub deepening-end : to ≤ i → (most ≡ deepestUse c (part s from to)) × (most < 1024)
+  pub measured : {count : ℕ} → Counting s from to c i count → to ≤ i → UsesAre s from to c (record { count = count; deepest = most })
   unfolding deepestUse
-  deepening-end l = (omega (arith, w .result, ap (deepestUse c) (part-empty s i to l)), w .small)
+  measured v l = record { count-is = counting-end v l; deepest-is = omega (arith, w .result, ap (deepestUse c) (part-empty s i to l)); small = w .small }
 
 -- ---- The number of letters, and the depth of the deepest K.
+-- The most abstractors in scope of a letter of K there; the dropped one is counted.
+pub record DepthIs (s : List ℕ) (p : ℕ) (x : Pair) (r : ℕ) : Type 0 where
+  pub all : (h d : ℕ) (K U B : Term) → PairLies s p h d x K U B → r ≡ deepestUse (x .depth) (part s (x .rest) (x .end)) + scope K
+
 uses-most : (c : ℕ) (s : List ℕ) → usesOf c s ≤ length s
 unfolding usesOf useOf
 uses-most c [] = omega arith

@@ -11,11 +11,12 @@ use Rattle.calculus.specs.Terms.{Term}
 use Rattle.code.specs.Limits.{longestTerm, mostAbstractors}
 use Rattle.code.specs.Scope.{scope}
 use Rattle.parts.specs.Parts.{part}
-use Rattle.letters.specs.Letters.{symbolOf, depthOf, heightOf}
+use Rattle.letters.specs.Letters.{depths, symbolOf, depthOf, heightOf}
 use Rattle.bodies.specs.Moving.{liftedLetter}
-use Rattle.steps.specs.Lowering.{loweredLetter}
+use Rattle.steps.specs.Lowering.{loweredLetter, usesOf}
 use Rattle.steps.specs.Pairs.{PairLies, SomePair}
 use Rattle.steps.specs.declared.Pair.{Pair}
+use Rattle.steps.specs.declared.Uses.{Uses}
 
 -- What becomes of the letter x in the scope of a dropped abstractor of depth c: a use becomes the letters v of K, lifted, whose first has
 -- depth c and height low.
@@ -43,9 +44,11 @@ unfolding useDepth
 deepestUse c [] = 0
 deepestUse c (x ∷ s) = max (useDepth c x) (deepestUse c s)
 
--- The most abstractors in scope of a letter of K there; the dropped one is counted.
-pub record DepthIs (s : List ℕ) (p : ℕ) (x : Pair) (r : ℕ) : Type 0 where
-  pub all : (h d : ℕ) (K U B : Term) → PairLies s p h d x K U B → r ≡ deepestUse (x .depth) (part s (x .rest) (x .end)) + scope K
+-- The uses of the variable of an abstractor of depth c in its scope.
+pub record UsesAre (s : List ℕ) (from e c : ℕ) (r : Uses) : Type 0 where
+  pub count-is : r .count ≡ usesOf c (part s from e)
+  pub deepest-is : r .deepest ≡ deepestUse c (part s from e)
+  pub small : r .deepest < depths
 
 -- The letter fits into `out` from j on, and is not too deep or too high.
 pub record LetterFillable (s : List ℕ) (p : ℕ) (x : Pair) (y : ℕ) (out : List ℕ) (j : ℕ) : Type 0 where

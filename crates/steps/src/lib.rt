@@ -9,9 +9,9 @@ ghost use Rattle.letters.specs.Letters.{depthOf};
 ghost use Rattle.parts.specs.Parts.{part, Copied};
 ghost use Rattle.bodies.specs.Held.{SomeHeld, Steps};
 ghost use Rattle.bodies.specs.Moving.{Mapped, TermLiftable, Lifts, Spliced};
-ghost use Rattle.steps.specs.Lowering.{loweredLetter, useOf, usesOf, InScope};
+ghost use Rattle.steps.specs.Lowering.{loweredLetter, useOf, InScope};
 ghost use Rattle.steps.specs.Pairs.{InSomeBody, InBodyAfter, Searches, SomePair};
-ghost use Rattle.steps.specs.Filling.{useDepth, deepestUse, filling, DepthIs, LetterFillable, LetterFills, Fillable, Fills, Rewritable};
+ghost use Rattle.steps.specs.Filling.{useDepth, UsesAre, filling, LetterFillable, LetterFills, Fillable, Fills, Rewritable};
 use bodies::Form;
 use bodies::NO_PARTNER;
 use bodies::PAST_END;
@@ -85,6 +85,12 @@ fn pair_at(s: &Letters, n: usize, p: usize) -> Pair
 }
 
 // ---- The rest of a pair, without its abstractor.
+// How often its variable is used, and the depth of its deepest use, 0 if there is none.
+struct Uses {
+    count: u32,
+    deepest: u32,
+}
+
 // A letter in the scope of a dropped abstractor of depth c.
 fn lowered_letter(x: u32, c: u32) -> u32
     requires { ⌜ c < depthOf x ⌝ }
@@ -124,18 +130,36 @@ fn use_of(x: u32, c: u32) -> u32
     }
 }
 
-// How often the variable of an abstractor of depth c is used from `from` up to `to`.
-fn uses(s: &Letters, from: usize, to: usize, c: u32) -> u32
+// The larger of `most` and the depth of the letter x, if x is a use of the variable of an abstractor of depth c.
+fn deeper_use(most: u32, x: u32, c: u32) -> u32
+    requires { ⌜ c < depthOf x ⌝ }
+    ensures { λ r. ⌜ r ≡ max most (useDepth c x) ⌝ }
+{
+    let d = x / 1024 % 1024;
+    if x % 1024 != d - c {
+        return most;
+    }
+    if most < d { d } else { most }
+}
+
+// The uses of the variable of an abstractor of depth c from `from` up to `to`, by one pass.
+fn measure(s: &Letters, from: usize, to: usize, c: u32) -> Uses
     requires { ⌜ InScope (now s) from to c ⌝ }
-    ensures { λ r. ⌜ r ≡ usesOf c (part (now (s .entry)) from to) ⌝ }
+    ensures { λ r. ⌜ UsesAre (now (s .entry)) from to c r ⌝ }
 {
     let mut count: u32 = 0;
+    let mut most: u32 = 0;
     let mut i = from;
     while i < to {
-        count += use_of(s[i], c);
+        let x = s[i];
+        count += use_of(x, c);
+        most = deeper_use(most, x, c);
         i += 1;
     }
-    count
+    Uses {
+        count: count,
+        deepest: most,
+    }
 }
 
 // ---- A removal.
@@ -152,7 +176,9 @@ fn removal(s: &mut Letters, n: usize, p: usize) -> Form
     let c = x.depth;
     let q = x.rest;
     let e = x.end;
-    if uses(s, q, e, c) > 0 {
+    let u = measure(s, q, e, c);
+    let count = u.count;
+    if count > 0 {
         return Form::Refused(STILL_USED);
     }
     lower_part(s, q, e, c);
@@ -161,56 +187,6 @@ fn removal(s: &mut Letters, n: usize, p: usize) -> Form
 }
 
 // ---- The whole substitution.
-// The larger of `most` and the depth of the letter x, if x is a use of the variable of an abstractor of depth c.
-fn deeper_use(most: u32, x: u32, c: u32) -> u32
-    requires { ⌜ c < depthOf x ⌝ }
-    ensures { λ r. ⌜ r ≡ max most (useDepth c x) ⌝ }
-{
-    let d = x / 1024 % 1024;
-    if x % 1024 != d - c {
-        return most;
-    }
-    if most < d { d } else { most }
-}
-
-// The depth of the deepest use from `from` up to `to`, 0 if there is none.
-fn deepest_use(s: &Letters, from: usize, to: usize, c: u32) -> u32
-    requires { ⌜ InScope (now s) from to c ⌝ }
-    ensures { λ r. ⌜ (r ≡ deepestUse c (part (now (s .entry)) from to)) × (r < 1024) ⌝ }
-{
-    let mut most: u32 = 0;
-    let mut i = from;
-    while i < to {
-        most = deeper_use(most, s[i], c);
-        i += 1;
-    }
-    most
-}
-
-// How many letters B has with K for each use.
-fn filled_size(s: &Letters, p: usize, x: Pair) -> usize
-    requires { ⌜ SomePair (now s) p x ⌝ }
-    ensures { λ r. ⌜ r ≡ length (filling (now (s .entry)) p x) ⌝ }
-{
-    let m = x.abstractor;
-    let q = x.rest;
-    let e = x.end;
-    let count = wide(uses(s, q, e, x.depth));
-    e - q + count * (m - p - 2)
-}
-
-// The most abstractors in scope of a letter of such a K; the pair's own is counted.
-fn filled_depth(s: &Letters, p: usize, x: Pair) -> u32
-    requires { ⌜ SomePair (now s) p x ⌝ }
-    ensures { λ r. ⌜ DepthIs (now (s .entry)) p x r ⌝ }
-{
-    let m = x.abstractor;
-    let c = x.depth;
-    let q = x.rest;
-    let e = x.end;
-    deepest_use(s, q, e, c) + (deepest(s, p + 1, m) - c)
-}
-
 // The term that lies in s from `from` up to `to`, where its first letter has depth c, goes lifted by k to `out` from `at` on, where its
 // first letter has height h.
 fn lift_to(s: &Letters, from: usize, to: usize, c: u32, k: u32, h: u32, out: &mut [u32], at: usize)
@@ -317,13 +293,19 @@ fn whole(s: &mut Letters, n: usize, p: usize, len: usize) -> Form
     if reason > 0 {
         return Form::Refused(reason);
     }
+    let c = x.depth;
+    let m = x.abstractor;
+    let q = x.rest;
     let e = x.end;
+    let u = measure(s, q, e, c);
+    let count = u.count;
+    let most = u.deepest;
     let kept = n - (e - p);
-    let size = filled_size(s, p, x);
+    let size = e - q + wide(count) * (m - p - 2);
     if kept + size > LONGEST_TERM {
         return Form::Outgrown;
     }
-    if filled_depth(s, p, x) > narrow(MOST_ABSTRACTORS - len) + 1 {
+    if most + (deepest(s, p + 1, m) - c) > narrow(MOST_ABSTRACTORS - len) + 1 {
         return Form::Outgrown;
     }
     substitute(s, n, p, x, size);

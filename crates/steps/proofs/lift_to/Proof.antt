@@ -4,7 +4,6 @@ use Prim.Native.Nat.{_+_, _-_, _≤_}
 use native.Mathlib.Omega.{arith}
 use mathlib.Core.Path.{_≡_, refl, _∙_}
 use mathlib.Core.List.{map}
-use lib.ListN.{length}
 use Rattle.parts.specs.Parts.{part}
 use Rattle.letters.proofs.Letters.{lies-end}
 use Rattle.bodies.specs.Moving.{liftedLetter}

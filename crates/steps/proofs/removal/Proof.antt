@@ -11,11 +11,11 @@ use Rattle.steps.proofs.removal.Tie as tie
 returns : tie.Need-returns
 returns c = λ w f. search-refused (c .before .pair-at .ensures) (λ e. omega (arith, c .if1 .taken)) w f .0
 
-uses-requires : tie.Need-uses-requires
-uses-requires c κs = in-scope (some-pair (c .before .before .before .before .pre) (c .before .before .pair-at .ensures) (omega (arith, c .before .if1 .left)))
+measure-requires : tie.Need-measure-requires
+measure-requires c κs = in-scope (some-pair (c .before .before .before .before .pre) (c .before .before .pair-at .ensures) (omega (arith, c .before .if1 .left)))
 
 returns-2 : tie.Need-returns-2
-returns-2 c = still (c .before .before .before .before .before .before .pre) (c .before .before .before .before .pair-at .ensures) (omega (arith, c .before .before .before .if1 .left)) (c .before .uses .ensures) (λ e. omega (arith, c .if2 .taken))
+returns-2 c = still (c .before .before .before .before .before .before .pre) (c .before .before .before .before .pair-at .ensures) (omega (arith, c .before .before .before .if1 .left)) (c .before .measure .ensures .count-is) (λ e. omega (arith, c .if2 .taken))
 
 lower-part-requires : tie.Need-lower-part-requires
 lower-part-requires c κs = in-scope (some-pair (c .before .before .before .before .before .before .before .pre) (c .before .before .before .before .before .pair-at .ensures) (omega (arith, c .before .before .before .before .if1 .left)))
@@ -26,14 +26,14 @@ sub-move-left c = omega (arith, pair-before (c .before .before .before .before .
 move-left-requires : tie.Need-move-left-requires
 move-left-requires c κs = let b = bounds (c .before .before .before .before .before .before .before .before .before .pre) in let o = pair-before (c .before .before .before .before .before .before .before .before .before .pre) (c .before .before .before .before .before .before .before .pair-at .ensures) (omega (arith, c .before .before .before .before .before .before .if1 .left)) in (omega arith, (omega arith, omega (arith, c .before .lower-part .ensures .same-length)), c .before .lower-part .ensures .same-length ∙ b .0)
 
-sub-t16 : tie.Need-sub-t16
-sub-t16 c = omega (arith, pair-before (c .before .before .before .before .before .before .before .before .before .before .pre) (c .before .before .before .before .before .before .before .before .pair-at .ensures) (omega (arith, c .before .before .before .before .before .before .before .if1 .left)))
-
 sub-t17 : tie.Need-sub-t17
 sub-t17 c = omega (arith, pair-before (c .before .before .before .before .before .before .before .before .before .before .pre) (c .before .before .before .before .before .before .before .before .pair-at .ensures) (omega (arith, c .before .before .before .before .before .before .before .if1 .left)))
 
+sub-t18 : tie.Need-sub-t18
+sub-t18 c = omega (arith, pair-before (c .before .before .before .before .before .before .before .before .before .before .pre) (c .before .before .before .before .before .before .before .before .pair-at .ensures) (omega (arith, c .before .before .before .before .before .before .before .if1 .left)))
+
 returns-3 : tie.Need-returns-3
-returns-3 c = gone (c .before .before .before .before .before .before .before .before .before .before .pre) (c .before .before .before .before .before .before .before .before .pair-at .ensures) (omega (arith, c .before .before .before .before .before .before .before .if1 .left)) (c .before .before .before .before .before .uses .ensures) (omega (arith, c .before .before .before .before .if2 .left)) (c .before .before .lower-part .ensures) (c .move-left .ensures)
+returns-3 c = gone (c .before .before .before .before .before .before .before .before .before .before .pre) (c .before .before .before .before .before .before .before .before .pair-at .ensures) (omega (arith, c .before .before .before .before .before .before .before .if1 .left)) (c .before .before .before .before .before .measure .ensures .count-is) (omega (arith, c .before .before .before .before .if2 .left)) (c .before .before .lower-part .ensures) (c .move-left .ensures)
 
 pub removal-spec : {M : Type 1} → statement M
 removal-spec =
@@ -41,11 +41,11 @@ removal-spec =
     (tie.spec
     (λ c κs. search needs)
     returns
-    uses-requires
+    measure-requires
     returns-2
     lower-part-requires
     sub-move-left
     move-left-requires
-    sub-t16
     sub-t17
+    sub-t18
     returns-3)

@@ -2,7 +2,6 @@
 -- Assumes nothing.
 use native.Mathlib.Omega.{arith}
 use Rattle.steps.proofs.Writing.{fillable, movable, copyable, rewritten}
-use borrow.Author.Needs.{needs}
 use Rattle.steps.proofs.rewrite.Statement.{statement}
 use Rattle.steps.proofs.rewrite.Tie as tie
 

@@ -3,7 +3,6 @@
 use native.Mathlib.Omega.{arith}
 use mathlib.Core.Path.{refl}
 use Rattle.steps.proofs.Substituting.{past-refused, kind-refused, as-kind}
-use borrow.Author.Needs.{needs}
 use Rattle.steps.proofs.step_in_place.Statement.{statement}
 use Rattle.steps.proofs.step_in_place.Tie as tie
 
