@@ -46,8 +46,7 @@ pub record LiftableLetter (c k h low x : ℕ) : Type 0 where
   pub low-enough : low ≤ heightOf x
   pub high : heightOf x + h < low + heights
 
--- A term that lies in s, where its first letter has depth c, and that may be lifted by k to height h; it has room in s from `at` on, past
--- its end.
+-- A term that lies in s, where its first letter has depth c, and that may be lifted by k to height h.
 pub record TermLiftable (s : List ℕ) (from e c k h : ℕ) : Type 0 where
   pub array : length s ≡ longestTerm
   pub low : ℕ
@@ -56,6 +55,7 @@ pub record TermLiftable (s : List ℕ) (from e c k h : ℕ) : Type 0 where
   pub few : c + scope term + k ≤ mostAbstractors
   pub high : h + e ≤ from + longestTerm
 
+-- Lifted so, it has room in s from `at` on, past its end.
 pub record PartLiftable (s : List ℕ) (from e c k h at : ℕ) : Type 0 where
   pub liftable : TermLiftable s from e c k h
   pub past : e ≤ at
