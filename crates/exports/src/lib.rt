@@ -5,6 +5,7 @@ ghost use Rattle.examine.specs.Inspect.{termAnswer};
 ghost use Rattle.files.specs.File.{fileAnswer};
 ghost use Rattle.files.specs.Check.{checkFile};
 ghost use Rattle.calls.specs.Answers.{typeAnswer, stepAnswer};
+ghost use Rattle.printing.specs.Page.{printAnswer};
 ghost use Rattle.exports.specs.Numbers.{termNumbers, fileNumbers, checkNumbers, noneOf, Given};
 
 // Number, place, degree.
@@ -62,6 +63,18 @@ pub extern "C" fn bijterne_apply_step(
     let at = a.place;
     let length = a.length;
     *answer = [number as u64, at as u64, length as u64];
+}
+
+// Number, place and the length of the page.
+#[no_mangle]
+pub extern "C" fn bijterne_print_term(s: &[u8], out: &mut [u8], answer: &mut [u64; 3])
+    ensures { λ r. ⌜ Given (printAnswer (now (s .entry)) (now (out .entry))) (now (answer .entry)) (now (answer .exit)) (now (out .exit)) ⌝ }
+{
+    let a = printing::print_term(s, out);
+    let number = a.number;
+    let place = a.place;
+    let length = a.length;
+    *answer = [number as u64, place as u64, length as u64];
 }
 
 // Number, place, comparisons completed, degree.
