@@ -1,6 +1,6 @@
-/* The program. Rattle's main has no exit status, so C's hands over the one of bijterne_run, which is proved (crates/program). */
-int bijterne_run(void);
+/* A program. Rattle's main has no exit status, so C's hands over the one of the proved function that RUN names (crates/program). */
+int RUN(void);
 
 int main(void) {
-    return bijterne_run();
+    return RUN();
 }

@@ -1,4 +1,4 @@
-// Standard input and output for the programs: the whole input or a failure, and a line of numbers in one write.
+// Standard input, output and error for the programs: the whole input or a failure, and a line of numbers in one write.
 ghost use mathlib.Core.Path.{_≡_};
 ghost use Prim.Native.Nat.{_≤_};
 ghost use lib.ListN.{length};
@@ -41,10 +41,10 @@ fn read_once(s: &mut [u8]) -> Moved
     }
 }
 
-fn write_once(s: &[u8]) -> Moved
+fn write_once(to: i32, s: &[u8]) -> Moved
     ensures { λ r. ⌜ r .bytes ≤ length (now (s .entry)) ⌝ }
 {
-    let put = libc::write(libc::STDOUT_FILENO, s);
+    let put = libc::write(to, s);
     if put < 0 {
         return not_moved();
     }
@@ -97,15 +97,15 @@ pub fn read_input(s: &mut [u8]) -> Input
     failure()
 }
 
-// Writes all of s, in one write if the system takes it so. Whether it could be written.
-pub fn write_output(s: &[u8]) -> bool {
+// Writes all of s to a descriptor, in one write if the system takes it so. Whether it could be written.
+pub fn write_all(to: i32, s: &[u8]) -> bool {
     let mut n: usize = 0;
     let mut turns = u64::MAX;
     while turns > 0 {
         if n == s.len() {
             return true;
         }
-        let m = write_once(&s[n..]);
+        let m = write_once(to, &s[n..]);
         if m.failed {
             return false;
         }

@@ -1,17 +1,17 @@
--- `streams::write_output` is safe and ends: the turns left fall.
+-- `streams::write_all` is safe and ends: the turns left fall.
 -- Assumes nothing.
 use Prim.Native.Nat.{_≤_}
 use mathlib.Core.Path.{_≡_}
 use borrow.Author.Needs.{needs}
 use lib.ListN.{length}
-use Rattle.streams.proofs.write_output.Statement.{statement}
-use Rattle.streams.proofs.write_output.Tie as tie
+use Rattle.streams.proofs.write_all.Statement.{statement}
+use Rattle.streams.proofs.write_all.Tie as tie
 
 abbrev Inv-loop : tie.InvT-loop
-Inv-loop s n₀ turns₀ n turns = n ≤ length s
+Inv-loop to s n₀ turns₀ n turns = n ≤ length s
 
 abbrev μ-loop : tie.MeasureT-loop
-μ-loop s n₀ turns₀ n turns = turns
+μ-loop to s n₀ turns₀ n turns = turns
 
 loop-holds : tie.Need-loop-holds Inv-loop μ-loop
 loop-holds c = search needs
@@ -52,8 +52,8 @@ loop-again c = search needs
 returns-4 : tie.Need-returns-4 Inv-loop μ-loop
 returns-4 c = search needs
 
-pub write-output-spec : {M : Type 1} → statement M
-write-output-spec =
+pub write-all-spec : {M : Type 1} → statement M
+write-all-spec =
     tie.close
     (tie.spec
     Inv-loop

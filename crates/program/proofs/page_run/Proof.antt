@@ -1,0 +1,90 @@
+-- `program::page_run` is safe: a page lies within its buffer.
+-- Assumes nothing.
+use mathlib.Core.Path.{sym}
+use native.Mathlib.Omega.{arith}
+use lib.Seq.{length-take-le}
+use Rattle.printing.proofs.Promised.{within-buffer}
+use borrow.Author.Needs.{needs}
+use Rattle.program.proofs.page_run.Statement.{statement}
+use Rattle.program.proofs.page_run.Tie as tie
+
+large-buffer-requires : tie.Need-large-buffer-requires
+large-buffer-requires c κs = search needs
+
+slice-aggregate-read-input : tie.Need-slice-aggregate-read-input
+slice-aggregate-read-input c = search needs
+
+read-input-requires : tie.Need-read-input-requires
+read-input-requires c κs = search needs
+
+slice-aggregate-fail : tie.Need-slice-aggregate-fail
+slice-aggregate-fail c = search needs
+
+fail-requires : tie.Need-fail-requires
+fail-requires c κs = search needs
+
+returns : tie.Need-returns
+returns c = search needs
+
+array-share-prefix-buffer : tie.Need-array-share-prefix-buffer
+array-share-prefix-buffer c = search needs
+
+slice-aggregate-print-term : tie.Need-slice-aggregate-print-term
+slice-aggregate-print-term c = search needs
+
+slice-aggregate-print-term-2 : tie.Need-slice-aggregate-print-term-2
+slice-aggregate-print-term-2 c = search needs
+
+print-term-requires : tie.Need-print-term-requires
+print-term-requires c κs = search needs
+
+write-refusal-requires : tie.Need-write-refusal-requires
+write-refusal-requires c κs = search needs
+
+returns-2 : tie.Need-returns-2
+returns-2 c = search needs
+
+array-share-prefix-page : tie.Need-array-share-prefix-page
+array-share-prefix-page c = omega (arith, within-buffer _ _ (c .before .before .print-term .ensures))
+
+slice-aggregate-write-all : tie.Need-slice-aggregate-write-all
+slice-aggregate-write-all c = sym (length-take-le _ _ (omega (arith, within-buffer _ _ (c .before .before .before .print-term .ensures))))
+
+write-all-requires : tie.Need-write-all-requires
+write-all-requires c κs = search needs
+
+slice-aggregate-fail-2 : tie.Need-slice-aggregate-fail-2
+slice-aggregate-fail-2 c = search needs
+
+fail-requires-2 : tie.Need-fail-requires-2
+fail-requires-2 c κs = search needs
+
+returns-3 : tie.Need-returns-3
+returns-3 c = search needs
+
+returns-4 : tie.Need-returns-4
+returns-4 c = search needs
+
+pub page-run-spec : {M : Type 1} → statement M
+page-run-spec =
+    tie.close
+    (tie.spec
+    large-buffer-requires
+    slice-aggregate-read-input
+    read-input-requires
+    slice-aggregate-fail
+    fail-requires
+    returns
+    array-share-prefix-buffer
+    slice-aggregate-print-term
+    slice-aggregate-print-term-2
+    print-term-requires
+    write-refusal-requires
+    returns-2
+    array-share-prefix-page
+    slice-aggregate-write-all
+    write-all-requires
+    slice-aggregate-fail-2
+    fail-requires-2
+    returns-3
+    returns-4)
