@@ -1,7 +1,7 @@
 //! One call, and the two answers to it.
 
 use reference::rng::Rng;
-use reference::TypeAnswer;
+use reference::{StepAnswer, TypeAnswer};
 use std::fmt;
 use std::panic::{catch_unwind, AssertUnwindSafe};
 
@@ -12,6 +12,7 @@ pub enum Kind {
     Type,
     Step(u8, u16),
     Check,
+    Print,
 }
 
 use Kind::*;
@@ -19,7 +20,8 @@ use Kind::*;
 /// Bytes before and after a lent buffer that no call may touch.
 const GUARD: usize = 8;
 
-/// A call: which one, its input, and for Type and Step the bytes of the buffer before the call, with a guard on each side.
+/// A call: which one, its input, and for Type, Step and Print the bytes of the buffer before the call, with a guard on each
+/// side.
 #[derive(Clone, PartialEq, Eq)]
 pub struct Call {
     pub kind: Kind,
@@ -40,13 +42,21 @@ impl Answer {
         self.numbers.map(|numbers| numbers[0] as usize)
     }
 
-    /// Whether these bytes stand at the start of the lent buffer.
-    pub fn starts_with(&self, bytes: &[u8]) -> bool {
-        self.buffer[GUARD..].starts_with(bytes)
+    /// Whether these bytes stand at the start of the lent buffer, and elsewhere what stood there before the call.
+    pub fn wrote(&self, bytes: &[u8], call: &Call) -> bool {
+        let mut expected = call.buffer.clone();
+        if !bytes.is_empty() {
+            lent(&mut expected)[..bytes.len()].copy_from_slice(bytes);
+        }
+        self.buffer == expected
     }
 
     fn of(numbers: [u64; 4], buffer: Vec<u8>) -> Answer {
         Answer { numbers: Some(numbers), buffer }
+    }
+
+    fn of_written(a: StepAnswer, buffer: Vec<u8>) -> Answer {
+        Answer::of([a.number.into(), a.place as u64, a.len as u64, 0], buffer)
     }
 }
 
@@ -74,16 +84,14 @@ impl Call {
                 let start = if a.term.is_empty() { 0 } else { a.term.as_ptr() as usize - s.as_ptr() as usize };
                 Some([a.number.into(), a.place as u64, start as u64, (start + a.term.len()) as u64])
             }
-            Type => bijterne::write_type(s, lent(&mut buffer)).map(|a| [a.number.into(), a.place as u64, a.length as u64, 0]),
-            Step(kind, place) => {
-                let a = bijterne::apply_step(s, kind, place, lent(&mut buffer));
-                Some([a.number.into(), a.place as u64, a.length as u64, 0])
-            }
+            Type => bijterne::write_type(s, lent(&mut buffer)).map(written),
+            Step(kind, place) => Some(written(bijterne::apply_step(s, kind, place, lent(&mut buffer)))),
             Check => {
                 // SAFETY: the program runs its calls on stacks larger than any check needs.
                 let a = unsafe { bijterne::check_here(s) };
                 Some([a.number.into(), a.place as u64, a.comparisons as u64, a.degree as u64])
             }
+            Print => Some(written(bijterne::print_term(s, lent(&mut buffer)))),
         };
         Answer { numbers, buffer }
     }
@@ -104,16 +112,14 @@ impl Call {
                 }
                 Type => match reference::write_type(s, lent(&mut buffer)) {
                     TypeAnswer::None_ => Answer { numbers: None, buffer },
-                    TypeAnswer::Answer { number, place, len } => Answer::of([number.into(), place as u64, len as u64, 0], buffer),
+                    TypeAnswer::Answer { number, place, len } => Answer::of_written(StepAnswer { number, place, len }, buffer),
                 },
-                Step(kind, place) => {
-                    let a = reference::apply_step(s, kind, place, lent(&mut buffer));
-                    Answer::of([a.number.into(), a.place as u64, a.len as u64, 0], buffer)
-                }
+                Step(kind, place) => Answer::of_written(reference::apply_step(s, kind, place, lent(&mut buffer)), buffer),
                 Check => {
                     let a = reference::check(s);
                     Answer::of([a.number.into(), a.place as u64, a.comparisons as u64, a.degree], buffer)
                 }
+                Print => Answer::of_written(reference::print_term(s, lent(&mut buffer)), buffer),
             }
         }))
         .ok()
@@ -135,6 +141,11 @@ impl Call {
         let proved = self.proved();
         (self.reference().as_ref() == Some(&proved)).then_some(proved)
     }
+}
+
+/// The proved library's numbers of a call that writes.
+fn written(a: bijterne::Written) -> [u64; 4] {
+    [a.number.into(), a.place as u64, a.length as u64, 0]
 }
 
 fn lent(buffer: &mut [u8]) -> &mut [u8] {

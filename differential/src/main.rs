@@ -2,19 +2,21 @@
 //! of the two answers is compared, and every byte of a lent buffer with 8 bytes on each side of it.
 //!
 //! Compared first, whatever the seed:
-//! - document 01's examples and the inputs at the limits in `named`, with each other and with the answer written there, and the sweeps in `limits`;
+//! - document 01's examples and the inputs at the limits in `named`, with each other and with the answer written there, and the
+//!   sweeps in `limits` (File, Check, Print);
 //! - files: all strings of at most 4 bytes over the interesting values 00 01 02 03 fc fd fe ff (File, Check);
 //! - bare terms: all terms of at most 3 bytes, as all strings of at most 2 bytes and all of 3 that begin with fe or ff; all
 //!   strings of at most 5 bytes over the interesting values, since the 131 million terms of 5 bytes differ otherwise only in
-//!   indices beyond every scope (Term, Type; for those that are closed terms also Step, of kinds 0 to 4 at every place);
-//! - all closed terms of at most 9 bytes with indices of at most 2, for Step of kind 3 at every applicator.
+//!   indices beyond every scope (Term, Type, Print; for those that are closed terms also Step, of kinds 0 to 4 at every place);
+//! - all closed terms of at most 9 bytes with indices of at most 2, for Step of kind 3 at every applicator;
+//! - closed terms of every size about a line's end, the smallest and the longest, for Print, into the buffers that `pages` says.
 //!
-//! Then, for each number below COUNT, from the seed: a file (File, Check) and a bare term (Term, Type, Step), the buffer
+//! Then, for each number below COUNT, from the seed: a file (File, Check) and a bare term (Term, Type, Step, Print), the buffer
 //! longer than the result, and then empty, too short by one, exact or longer by one, its bytes at random.
 //!
 //! A disagreement prints the smallest call that it could be shrunk to, and the exit status is 1; so it is if in a run of
 //! 100,000 or more some number from 0 to 14 was no call's answer, or no accepted file had so many comparisons, or steps, or
-//! some number was missing from the answers with kind 3.
+//! some number was missing from the answers with kind 3, or 0, 3, 4, 5, 6 or 14 from those of Print.
 
 mod call;
 mod named;
@@ -23,9 +25,10 @@ mod tally;
 
 use call::{Answer, Call, Kind};
 use reference::frame::SUBSTITUTION;
-use reference::gen::{bare_term, empty_groups, file, random_file, step_for};
+use reference::gen::{bare_term, closed_term, empty_groups, file, random_file, step_for};
 use reference::rng::Rng;
 use reference::mistakes::set_aside;
+use reference::page::page_length;
 use reference::stack::on_large_stack;
 use reference::term::read_term;
 use shrink::report;
@@ -60,7 +63,7 @@ fn named_limits(tally: &mut Tally) -> Result<usize, Disagreed> {
             println!("DISAGREE with the table on '{}': {answer} and not {:?}", named.name, named.numbers);
             return Err(Disagreed);
         }
-        if named.written.as_ref().is_some_and(|written| !answer.starts_with(written)) {
+        if named.written.as_ref().is_some_and(|written| !answer.wrote(written, &named.call)) {
             println!("DISAGREE with the table on '{}': {answer}", named.name);
             return Err(Disagreed);
         }
@@ -68,18 +71,17 @@ fn named_limits(tally: &mut Tally) -> Result<usize, Disagreed> {
     Ok(all.len())
 }
 
-/// Files at the limits: nesting, abstractors and every index, applicators that wait.
+/// Terms at the limits: nesting, abstractors and every index, applicators that wait.
 fn limits() -> Vec<Vec<u8>> {
     let nested = |front: &[u8], tag: u8, n: usize| [front, &vec![tag; n], &vec![0; n + 1]].concat();
-    let plain = |term: Vec<u8>| file(&term, &empty_groups(0));
     let mut all = Vec::new();
     for tag in [0xfe, 0xff] {
-        all.extend([2_046, 2_047, 2_048].map(|n| plain(nested(&[], tag, n))));
-        all.push(plain(nested(&[0xff, 0].repeat(200), tag, 1_800)));
+        all.extend([2_046, 2_047, 2_048].map(|n| nested(&[], tag, n)));
+        all.push(nested(&[0xff, 0].repeat(200), tag, 1_800));
     }
-    all.extend([1, 1_000, 2_047].map(|n| plain([[0xfe, 0].repeat(n), vec![0]].concat())));
+    all.extend([1, 1_000, 2_047].map(|n| [[0xfe, 0].repeat(n), vec![0]].concat()));
     for n in [252, 253, 254] {
-        all.extend((0..=0xfd).map(|k| plain([[0xff, 0].repeat(n), vec![k]].concat())));
+        all.extend((0..=0xfd).map(|k| [[0xff, 0].repeat(n), vec![k]].concat()));
     }
     all
 }
@@ -102,17 +104,23 @@ fn strings(values: &[u8], length: usize) -> Vec<Vec<u8>> {
 fn fixed(tally: &mut Tally) -> Result<usize, Disagreed> {
     let written = named_limits(tally)?;
     let interesting = [0x00, 0x01, 0x02, 0x03, 0xfc, 0xfd, 0xfe, 0xff];
-    for input in strings(&interesting, 4).into_iter().chain(limits()) {
+    let limits = limits();
+    for input in strings(&interesting, 4).into_iter().chain(limits.iter().map(|term| file(term, &empty_groups(0)))) {
         compare(&Call::new(Kind::File, &input), tally)?;
         compare(&Call::new(Kind::Check, &input), tally)?;
     }
     let mut rng = Rng::new(0);
+    for input in limits {
+        compare_written(Kind::Print, &input, &mut rng, tally)?;
+    }
+    pages(&mut rng, tally)?;
     let every: Vec<u8> = (0..=255).collect();
     let pairs = strings(&every, 2);
     let triples = pairs.iter().filter(|pair| pair.len() == 2).flat_map(|pair| [0xfe, 0xff].map(|tag| [&[tag], &pair[..]].concat()));
     for input in pairs.iter().cloned().chain(triples).chain(strings(&interesting, 5)) {
         let answer = compare(&Call::new(Kind::Term, &input), tally)?;
         compare(&Call::lending(Kind::Type, &input, 6, &mut rng), tally)?;
+        compare(&Call::lending(Kind::Print, &input, page_length(1) + 1, &mut rng), tally)?;
         if answer.number() == Some(0) {
             for place in 0..=input.len() as u16 {
                 for kind in 0..=4 {
@@ -127,6 +135,23 @@ fn fixed(tally: &mut Tally) -> Result<usize, Disagreed> {
         }
     }
     Ok(written)
+}
+
+/// Prints closed terms into no bytes, and into buffers as long as the page or up to 3 bytes shorter or longer; a term of at most
+/// 55 bytes into all shorter ones; one of at most 20 lines, and the longest, into those about as long as the lines before.
+fn pages(rng: &mut Rng, tally: &mut Tally) -> Result<(), Disagreed> {
+    let line = page_length(1);
+    let about_ends = (18..4_093).step_by(18).flat_map(|cells| [cells - 1, cells + 1]);
+    for size in [1, 3].into_iter().chain(about_ends).chain([4_093, 4_095]) {
+        let input = set_aside(|| closed_term(rng, size)).bytes();
+        let page = page_length(size);
+        let about_a_line = |length: usize| (page <= 20 * line || size == 4_095) && (length + 1) % line <= 2;
+        let wanted = |length: usize| length == 0 || length + 3 >= page || size <= 55 || about_a_line(length);
+        for length in (0..=page + 3).filter(|length| wanted(*length)) {
+            compare(&Call::lending(Kind::Print, &input, length, rng), tally)?;
+        }
+    }
+    Ok(())
 }
 
 /// All terms of this odd size with indices of at most 2, closed or not.
@@ -146,7 +171,11 @@ fn small_terms(size: usize) -> Vec<Vec<u8>> {
 
 /// Compares a call that writes: into a buffer longer than any result, then into one about as long as the result.
 fn compare_written(kind: Kind, input: &[u8], rng: &mut Rng, tally: &mut Tally) -> Result<(), Disagreed> {
-    let longer = rng.between(4_096, 4_100);
+    let longer = match kind {
+        // A term has no more symbols than bytes.
+        Kind::Print => page_length(input.len()) + rng.between(1, 5),
+        _ => rng.between(4_096, 4_100),
+    };
     let answer = compare(&Call::lending(kind, input, longer, rng), tally)?;
     let result = answer.numbers.map_or(0, |numbers| numbers[2] as usize);
     let length = match rng.below(4) {
@@ -169,7 +198,8 @@ fn random(number: u64, tally: &mut Tally) -> Result<(), Disagreed> {
     compare(&Call::new(Kind::Term, &input), tally)?;
     compare_written(Kind::Type, &input, &mut rng, tally)?;
     let (kind, place) = set_aside(|| step_for(&mut rng, &input));
-    compare_written(Kind::Step(kind, place), &input, &mut rng, tally)
+    compare_written(Kind::Step(kind, place), &input, &mut rng, tally)?;
+    compare_written(Kind::Print, &input, &mut rng, tally)
 }
 
 /// All comparisons. What is made from the seed is dealt to the threads in turn, so its answers do not depend on their number.

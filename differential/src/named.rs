@@ -1,5 +1,5 @@
-//! Document 01's examples, the readings of kind 3, and inputs just within a limit and just beyond it, each with its answer
-//! written out.
+//! Document 01's examples, the readings of kind 3 and of printing, and inputs just within a limit and just beyond it, each with
+//! its answer written out.
 //!
 //! Every state's size is odd: an item counts 1 and a term, whose size is odd. So 8,192 bytes is no state's size, and 8,191 and
 //! 8,193 are the neighbours of that limit; 4,095 and 4,097 those of a compared body's. While B is the term's own text, R, W and
@@ -17,7 +17,7 @@ pub struct Named {
     pub call: Call,
     /// What is expected; none for the answer 'none'.
     pub numbers: Option<[u64; 4]>,
-    /// What stands at the start of the lent buffer after the call, where it is written out here.
+    /// What the call writes at the start of the lent buffer, where it is written out here: nothing at a refusal.
     pub written: Option<Vec<u8>>,
 }
 
@@ -45,7 +45,9 @@ impl Table {
     /// A call on a bare term, with a buffer of this length: number, place, and degree or length.
     fn bare(&mut self, name: &'static str, kind: Kind, term: &[u8], lent: usize, numbers: Option<(u64, usize, u64)>) {
         let numbers = numbers.map(|(number, place, third)| [number, place as u64, third, 0]);
-        self.0.push(Named { name, call: Call::lending(kind, term, lent, &mut Rng::new(0)), numbers, written: None });
+        let accepted = numbers.is_some_and(|numbers| numbers[0] == 0);
+        let written = (!accepted).then(Vec::new);
+        self.0.push(Named { name, call: Call::lending(kind, term, lent, &mut Rng::new(0)), numbers, written });
     }
 
     /// The same with the result written out; it is accepted.
@@ -98,6 +100,7 @@ pub fn named() -> Vec<Named> {
     bare(&mut table);
     substitutions(&mut table);
     substitutions_in_files(&mut table);
+    pages(&mut table);
     table.0
 }
 
@@ -535,4 +538,67 @@ fn substitutions_in_files(t: &mut Table) {
     };
     t.check("bodies in 253 scopes", scopes(50, 201), (0, 0, 5, 1));
     t.check("a body in 254 scopes", scopes(50, 202), (11, 3 + 2 * 101 + 2 * 202 + 7, 4, 1));
+}
+
+/// The page of these lines, each so many times and filled with blanks.
+fn page(lines: &[(usize, &str)]) -> Vec<u8> {
+    lines.iter().map(|(n, line)| format!("{line:72}\n").repeat(*n)).collect::<String>().into_bytes()
+}
+
+/// The readings B1 and B2, the limits, and pages written out.
+fn pages(t: &mut Table) {
+    use Kind::Print;
+    let tau = joined(&[b"   t", &[b' '; 68], b"\n"]);
+    t.result("B1", Print, &[0], 100, &tau);
+    t.result("B1: exact", Print, &[0], 73, &tau);
+    for lent in [0, 1, 71, 72] {
+        t.bare("B1: shorter", Print, &[0], lent, Some((14, 0, 0)));
+    }
+    let (abstractors, taus) = ("   T".repeat(18), "   t".repeat(18));
+    let turn = ["   T".repeat(13), "   t".repeat(5)].concat();
+    let longest = page(&[(113, &abstractors), (1, &turn), (113, &taus), (1, &taus[..36])]);
+    t.result("B2: the longest page, exact", Print, &nested(2_047), 16_644, &longest);
+    t.result("B2: the longest page, longer", Print, &nested(2_047), 17_000, &longest);
+    t.bare("B2: the longest page, shorter", Print, &nested(2_047), 16_643, Some((14, 0, 0)));
+    for lent in [0, 73, 17_000] {
+        t.bare("B2: an index beyond scope", Print, &[1], lent, Some((5, 0, 0)));
+        t.bare("no byte", Print, &[], lent, Some((3, 0, 0)));
+        t.bare("no end", Print, &[0xfe, 0], lent, Some((3, 2, 0)));
+        t.bare("a byte past the term", Print, &[1, 0], lent, Some((3, 1, 0)));
+        t.bare("4,096 bytes", Print, &joined(&[&nested(2_047), &[0]]), lent, Some((3, 4_095, 0)));
+        t.bare("4,097 bytes", Print, &nested(2_048), lent, Some((4, 0, 0)));
+        t.bare("254 abstractors", Print, &joined(&[&declarations(254), &[1]]), lent, Some((6, 506, 0)));
+        t.bare("5 left of 6", Print, &joined(&[&[0xfe, 1], &declarations(254), &[0]]), lent, Some((5, 1, 0)));
+        t.bare("6 left of 5", Print, &joined(&[&[0xfe], &declarations(254), &[0, 1]]), lent, Some((6, 507, 0)));
+    }
+
+    // 253 abstractors, and each index in the last line's third cell.
+    let declared = "   T   t".repeat(9);
+    for index in 0..=253 {
+        let cell = if index == 0 { "   t".into() } else { format!("{index:>4}") };
+        let written = page(&[(28, &declared), (1, &["   T   t", &cell].concat())]);
+        t.result("253 abstractors", Print, &joined(&[&declarations(253), &[index]]), 2_120, &written);
+    }
+    let train = joined(&[&times(2_047, &[0xfe, 0]), &[0]]);
+    let applied = "   A   t".repeat(9);
+    let written = page(&[(227, &applied), (1, &[&applied[..32], "   t"].concat())]);
+    t.result("2,047 applicators in a train", Print, &train, 16_644, &written);
+
+    let two = [
+        0xff, 0, 0xff, 1, 0xff, 1, 0xff, 2, 0xff, 4, 0xff, 0, 0xff, 6, 0xff, 3, 0xff, 8, 0xff, 9, 0xfe, 0xff, 10, 11, 10,
+    ];
+    let written = page(&[
+        (1, "   T   t   T   1   T   1   T   2   T   4   T   t   T   6   T   3   T   8"),
+        (1, "   T   9   A   T  10  11  10"),
+    ]);
+    t.result("two lines, longer", Print, &two, 150, &written);
+    t.result("two lines, exact", Print, &two, 146, &written);
+    for lent in [0, 72, 73, 74, 145] {
+        t.bare("two lines, shorter", Print, &two, lent, Some((14, 0, 0)));
+    }
+    // A line has 18 cells, and sizes are odd.
+    for (size, lines) in [(1, 1), (3, 1), (17, 1), (19, 2), (35, 2), (37, 3), (53, 3), (55, 4), (4_085, 227), (4_087, 228)] {
+        t.bare("about a line's end, exact", Print, &nested(size / 2), 73 * lines, Some((0, 0, 73 * lines as u64)));
+        t.bare("about a line's end, shorter", Print, &nested(size / 2), 73 * lines - 1, Some((14, 0, 0)));
+    }
 }

@@ -3,6 +3,7 @@
 use crate::call::{Call, Kind};
 use reference::file::{read_fields, Group};
 use reference::gen::file;
+use reference::page::page_length;
 use reference::term::Term::{Abs, App, Tau, Var};
 use reference::term::{abs, app, end_of_term, read_term, Term};
 use std::panic::set_hook;
@@ -121,12 +122,16 @@ fn with_less(call: &Call, differs: impl Fn(&Call) -> bool) -> Option<Call> {
         }
     }
     let inputs = smaller_terms(&call.input).flat_map(|input| {
-        // What was left out may have stood before the step's place.
+        // What was left out may have stood before the step's place, or the buffer be about as long as the page.
+        let bytes = call.input.len() - input.len();
+        let page = page_length(call.input.len()) - page_length(input.len());
+        let smaller = with_input(input);
         let moved = match call.kind {
-            Kind::Step(kind, place) => Kind::Step(kind, place.saturating_sub((call.input.len() - input.len()) as u16)),
-            kind => kind,
+            Kind::Step(kind, place) => Call { kind: Kind::Step(kind, place.saturating_sub(bytes as u16)), ..smaller.clone() },
+            Kind::Print => smaller.with_zeros(call.lent().saturating_sub(page)),
+            _ => smaller.clone(),
         };
-        [Call { kind: moved, ..with_input(input.clone()) }, with_input(input)]
+        [moved, smaller]
     });
     let buffers = lower(call.lent()).map(|length| call.with_zeros(length));
     buffers.chain(inputs).find(&differs)

@@ -6,19 +6,30 @@ use reference::frame::SUBSTITUTION;
 
 /// The last column is 'none'.
 const NUMBERS: usize = 16;
-const NAMES: [&str; 5] = ["term", "file", "type", "step", "check"];
+/// The calls; then again the step calls of kind 3, and the checks of a file with a step of kind 3. Each with the numbers that
+/// some answer in its row must have.
+const ROWS: [(&str, &[usize]); 8] = [
+    ("term", &[]),
+    ("file", &[]),
+    ("type", &[]),
+    ("step", &[]),
+    ("check", &[]),
+    ("print", &[0, 3, 4, 5, 6, 14]),
+    ("step 3", &[0, 10, 11, 14]),
+    ("with 3", &[0, 9, 10, 11, 12, 13]),
+];
+const CHECK: usize = 4;
+const STEP_3: usize = 6;
+const WITH_3: usize = 7;
 const BUCKETS: [&str; 5] = ["0", "1", "2-5", "6-20", "more"];
-/// The step calls of kind 3, and the checks of a file with a step of kind 3, each with the numbers that some must have.
-const OF_KIND_3: [(&str, &[usize]); 2] = [("step 3", &[0, 10, 11, 14]), ("with 3", &[0, 9, 10, 11, 12, 13])];
 
 #[derive(Clone, Default)]
 pub struct Tally {
-    calls: [[u64; NUMBERS]; 5],
+    /// As in `ROWS`.
+    rows: [[u64; NUMBERS]; ROWS.len()],
     /// Accepted files by comparisons.
     accepted: [u64; 5],
     with_steps: u64,
-    /// As in `OF_KIND_3`.
-    of_kind_3: [[u64; NUMBERS]; 2],
 }
 
 impl Tally {
@@ -28,18 +39,19 @@ impl Tally {
             Kind::File => 1,
             Kind::Type => 2,
             Kind::Step(..) => 3,
-            Kind::Check => 4,
+            Kind::Check => CHECK,
+            Kind::Print => 5,
         };
         let number = answer.number().unwrap_or(NUMBERS - 1);
-        self.calls[row][number] += 1;
+        self.rows[row][number] += 1;
         let fields = match call.kind {
             Kind::Check => read_fields(&call.input).ok(),
             _ => None,
         };
         let steps = fields.iter().flat_map(|fields| &fields.groups).flat_map(|group| group.left.iter().chain(&group.right));
         match call.kind {
-            Kind::Step(SUBSTITUTION, _) => self.of_kind_3[0][number] += 1,
-            Kind::Check if steps.clone().any(|step| step.kind == SUBSTITUTION) => self.of_kind_3[1][number] += 1,
+            Kind::Step(SUBSTITUTION, _) => self.rows[STEP_3][number] += 1,
+            Kind::Check if steps.clone().any(|step| step.kind == SUBSTITUTION) => self.rows[WITH_3][number] += 1,
             _ => {}
         }
         if let (Kind::Check, Some([0, _, comparisons, _])) = (call.kind, answer.numbers) {
@@ -55,11 +67,8 @@ impl Tally {
     }
 
     pub fn add(&mut self, other: &Tally) {
-        let rows = self.calls.iter_mut().chain(&mut self.of_kind_3);
-        for (mine, others) in rows.zip(other.calls.into_iter().chain(other.of_kind_3)) {
-            for (mine, others) in mine.iter_mut().zip(others) {
-                *mine += others;
-            }
+        for (mine, others) in self.rows.as_flattened_mut().iter_mut().zip(other.rows.as_flattened()) {
+            *mine += others;
         }
         for (mine, others) in self.accepted.iter_mut().zip(other.accepted) {
             *mine += others;
@@ -68,16 +77,15 @@ impl Tally {
     }
 
     pub fn print(&self) {
-        let files: u64 = self.calls[4].iter().sum();
-        let calls: u64 = self.calls.iter().flatten().sum();
+        let files: u64 = self.rows[CHECK].iter().sum();
+        let calls: u64 = self.rows[..STEP_3].iter().flatten().sum();
         println!("{calls} calls compared, {files} of them checks of a file. By number:");
         print!("      ");
         for number in 0..15 {
             print!(" {number:>7}");
         }
         println!(" {:>7}", "none");
-        let of_kind_3 = OF_KIND_3.iter().map(|(name, _)| name).zip(self.of_kind_3);
-        for (name, row) in NAMES.iter().zip(self.calls).chain(of_kind_3) {
+        for ((name, _), row) in ROWS.iter().zip(self.rows) {
             print!("{name:<6}");
             for n in row {
                 print!(" {n:>7}");
@@ -91,11 +99,11 @@ impl Tally {
         println!("\naccepted files with steps: {}", self.with_steps);
     }
 
-    /// What no answer had, among the numbers, the comparisons of accepted files, steps, and the numbers of kind 3.
+    /// What no answer had, among the numbers, the comparisons of accepted files, steps, and the numbers of `ROWS`.
     pub fn missing(&self) -> Vec<String> {
         let mut missing = Vec::new();
         for number in 0..15 {
-            if self.calls.iter().all(|row| row[number] == 0) {
+            if self.rows.iter().all(|row| row[number] == 0) {
                 missing.push(format!("number {number}"));
             }
         }
@@ -107,7 +115,7 @@ impl Tally {
         if self.with_steps == 0 {
             missing.push("accepted with steps".into());
         }
-        for ((name, numbers), row) in OF_KIND_3.iter().zip(self.of_kind_3) {
+        for ((name, numbers), row) in ROWS.iter().zip(self.rows) {
             missing.extend(numbers.iter().filter(|number| row[**number] == 0).map(|number| format!("{name} number {number}")));
         }
         missing

@@ -1,13 +1,14 @@
 //! A reference implementation of the checker of document 01 ("Delta-Lambda
-//! checking with supplied reductions") with document 02's kind 3, written for
-//! clarity: terms are trees that keep their size, the lists are lifted literally
-//! and every state is measured anew.
+//! checking with supplied reductions") with document 02's kind 3 and printing,
+//! written for clarity: terms are trees that keep their size, the lists are
+//! lifted literally and every state is measured anew.
 
 pub mod file;
 pub mod frame;
 pub mod gen;
 pub mod mistakes;
 pub mod normaliser;
+pub mod page;
 pub mod refusal;
 pub mod rng;
 pub mod stack;
@@ -17,10 +18,11 @@ pub mod walk;
 use file::{read_fields, Fields};
 use frame::{apply, body_outgrown, type_of, Frame, Step};
 use mistakes::{made, Mistake};
+use page::{page, page_length};
 use refusal::*;
 use stack::on_large_stack;
 use std::ops::Range;
-use term::{read_term, Term};
+use term::{read_term, Term, MAX_TERM_BYTES};
 use walk::{walk_by, Apply};
 
 #[derive(Clone, Copy, PartialEq, Eq, Debug)]
@@ -50,6 +52,7 @@ pub enum TypeAnswer {
     },
 }
 
+/// Of a step, and of printing.
 #[derive(Clone, Copy, PartialEq, Eq, Debug)]
 pub struct StepAnswer {
     pub number: u8,
@@ -103,26 +106,15 @@ pub fn examine_file(bytes: &[u8]) -> FileAnswer {
 /// Writes the type of a bare term at the buffer's start.
 pub fn write_type(bytes: &[u8], buffer: &mut [u8]) -> TypeAnswer {
     on_large_stack(|| {
-        let empty = Frame::new();
         let written = match read_term(bytes) {
             Err(refusal) => Err(refusal),
-            Ok(term) => match type_of(&empty, &term) {
+            Ok(term) => match type_of(&Frame::new(), &term) {
                 None => return TypeAnswer::None_,
                 Some(result) => write_result(&result, buffer),
             },
         };
-        match written {
-            Ok(len) => TypeAnswer::Answer {
-                number: 0,
-                place: 0,
-                len,
-            },
-            Err(Refusal { number, place }) => TypeAnswer::Answer {
-                number,
-                place,
-                len: 0,
-            },
-        }
+        let StepAnswer { number, place, len } = answer(written);
+        TypeAnswer::Answer { number, place, len }
     })
 }
 
@@ -133,25 +125,31 @@ pub fn apply_step(bytes: &[u8], kind: u8, place: u16, buffer: &mut [u8]) -> Step
             kind,
             place: usize::from(place),
         };
-        let written = match read_term(bytes) {
-            Err(refusal) => Err(refusal),
-            Ok(term) => match apply(&Frame::new(), &term, step) {
+        answer(read_term(bytes).and_then(|term| {
+            match apply(&Frame::new(), &term, step) {
                 None => refuse(BAD_STEP, 0),
                 Some(result) => write_result(&result, buffer),
-            },
-        };
-        match written {
-            Ok(len) => StepAnswer {
-                number: 0,
-                place: 0,
-                len,
-            },
-            Err(Refusal { number, place }) => StepAnswer {
-                number,
-                place,
-                len: 0,
-            },
+            }
+        }))
+    })
+}
+
+/// Prints a bare term, writing the page at the buffer's start.
+pub fn print_term(bytes: &[u8], buffer: &mut [u8]) -> StepAnswer {
+    on_large_stack(|| {
+        if made(Mistake::ShortBufferFirst) && buffer.len() < page_length(bytes.len()) {
+            return answer(refuse(SHORT_BUFFER, 0));
         }
+        answer(read_term(bytes).and_then(|term| {
+            let page = page(&term);
+            if made(Mistake::PageOutgrown) && page.len() > MAX_TERM_BYTES {
+                return refuse(OUTGROWN, 0);
+            }
+            if made(Mistake::ExactBufferRefused) && page.len() == buffer.len() {
+                return refuse(SHORT_BUFFER, 0);
+            }
+            write_bytes(&page, buffer)
+        }))
     })
 }
 
@@ -205,18 +203,38 @@ fn read_file(bytes: &[u8]) -> Result<(Fields, Term), Refusal> {
     Ok((fields, term))
 }
 
-/// Conditions 11 and 14 of a written result, then its bytes; gives the length.
+/// Condition 11 of a written result, then its bytes; gives the length.
 fn write_result(result: &Term, buffer: &mut [u8]) -> Result<usize, Refusal> {
     if body_outgrown(&Frame::new(), result) {
         return refuse(OUTGROWN, 0);
     }
-    let bytes = result.bytes();
+    write_bytes(&result.bytes(), buffer)
+}
+
+/// Condition 14, then the bytes at the buffer's start; gives the length.
+fn write_bytes(bytes: &[u8], buffer: &mut [u8]) -> Result<usize, Refusal> {
     if buffer.len() < bytes.len() {
         if made(Mistake::ShortBufferWritten) {
             buffer.copy_from_slice(&bytes[..buffer.len()]);
         }
         return refuse(SHORT_BUFFER, 0);
     }
-    buffer[..bytes.len()].copy_from_slice(&bytes);
+    buffer[..bytes.len()].copy_from_slice(bytes);
     Ok(bytes.len())
+}
+
+/// The answer for the length written, or for the refusal.
+fn answer(written: Result<usize, Refusal>) -> StepAnswer {
+    match written {
+        Ok(len) => StepAnswer {
+            number: 0,
+            place: 0,
+            len,
+        },
+        Err(Refusal { number, place }) => StepAnswer {
+            number,
+            place,
+            len: 0,
+        },
+    }
 }

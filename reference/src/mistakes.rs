@@ -31,11 +31,27 @@ pub enum Mistake {
     PairKept,
     /// A substitution is measured before the pair is dropped too.
     MeasuredOnTheWay,
+    /// A page's cells have their blanks on the right.
+    CellsLeftAligned,
+    /// A page has an index in hexadecimal, so that 10 is an applicator's A.
+    HexadecimalIndex,
+    /// A page has 17 cells in a line of 72 columns.
+    SeventeenCells,
+    /// A page's last line has no blanks after its last cell.
+    LastLineNotFilled,
+    /// A page's last line has no line feed.
+    LastLineFeedMissing,
+    /// A buffer as long as the page is too short.
+    ExactBufferRefused,
+    /// 14 is found before the term's own refusals in printing.
+    ShortBufferFirst,
+    /// A page of more bytes than a term may have is outgrown.
+    PageOutgrown,
 }
 
 use Mistake::*;
 
-pub const MISTAKES: [Mistake; 13] = [
+pub const MISTAKES: [Mistake; 21] = [
     WaitingNotLifted,
     TakesFromWFirst,
     OutgrownAfterTheRule,
@@ -49,6 +65,14 @@ pub const MISTAKES: [Mistake; 13] = [
     UsesInItemsForgotten,
     PairKept,
     MeasuredOnTheWay,
+    CellsLeftAligned,
+    HexadecimalIndex,
+    SeventeenCells,
+    LastLineNotFilled,
+    LastLineFeedMissing,
+    ExactBufferRefused,
+    ShortBufferFirst,
+    PageOutgrown,
 ];
 
 #[cfg(not(feature = "mistakes"))]

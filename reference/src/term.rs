@@ -265,30 +265,27 @@ impl Term {
         }
     }
 
+    /// Shows each symbol, from left to right, as the term that begins with it.
+    pub fn each_symbol(&self, show: &mut impl FnMut(&Term)) {
+        show(self);
+        if let App(item) | Abs(item) = self {
+            item.inner.each_symbol(show);
+            item.rest.each_symbol(show);
+        }
+    }
+
     /// The term's bytes. Every index must be at most 253.
     pub fn bytes(&self) -> Vec<u8> {
         let mut bytes = Vec::new();
-        self.write(&mut bytes);
-        bytes
-    }
-
-    fn write(&self, bytes: &mut Vec<u8>) {
-        match self {
+        self.each_symbol(&mut |symbol| match symbol {
             Tau => bytes.push(0),
             Var(index) => {
                 assert!((1..=MAX_SCOPE).contains(index), "an index has one byte");
                 bytes.push(*index as u8);
             }
-            App(item) => {
-                bytes.push(APPLICATOR);
-                item.inner.write(bytes);
-                item.rest.write(bytes);
-            }
-            Abs(item) => {
-                bytes.push(ABSTRACTOR);
-                item.inner.write(bytes);
-                item.rest.write(bytes);
-            }
-        }
+            App(_) => bytes.push(APPLICATOR),
+            Abs(_) => bytes.push(ABSTRACTOR),
+        });
+        bytes
     }
 }

@@ -246,6 +246,11 @@ fn the_program() {
         run(&["step", "1", "0", "0"], &hex("fe 00 ff 00 00")),
         "10 0 0\n"
     );
+    assert_eq!(run(&["print", "2"], &hex("00")), "14 0 0 aaaa\n");
+    assert_eq!(
+        run(&["print", "74"], &hex("00")),
+        format!("0 0 73 20202074{}0aaa\n", "20".repeat(68))
+    );
 }
 
 // ----------------------------------------------- the calls' own descriptions

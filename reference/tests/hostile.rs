@@ -14,6 +14,7 @@ fn empty_input() {
     assert_eq!(checked(&[]), (1, 0, 0, 0));
     assert_eq!(typed(&[], 3), (answer(3, 0, 0), untouched(3)));
     assert_eq!(stepped(&[], 1, 0, 3), ((3, 0, 0), untouched(3)));
+    assert_eq!(printed(&[], 3), ((3, 0, 0), untouched(3)));
 }
 
 #[test]
@@ -32,12 +33,14 @@ fn one_byte() {
                 assert_eq!(examined(&bytes), (0, 0, 1));
                 assert_eq!(typed(&bytes, 1), (TypeAnswer::None_, untouched(1)));
                 assert_eq!(stepped(&bytes, 1, 0, 1), ((10, 0, 0), untouched(1)));
+                assert_eq!(printed(&bytes, 1), ((14, 0, 0), untouched(1)));
                 assert_eq!(checked(&field(1, &bytes)), (0, 0, 0, 1));
             }
             Some((number, place)) => {
                 assert_eq!(examined(&bytes), (number, place, 0));
                 assert_eq!(typed(&bytes, 1), (answer(number, place, 0), untouched(1)));
                 assert_eq!(stepped(&bytes, 1, 0, 1), ((number, place, 0), untouched(1)));
+                assert_eq!(printed(&bytes, 1), ((number, place, 0), untouched(1)));
                 assert_eq!(checked(&field(1, &bytes)), (number, place, 0, 0));
                 assert_eq!(file_examined(&field(1, &bytes)), (number, place, 0..0));
             }
@@ -66,12 +69,15 @@ fn short_strings() {
             assert_eq!((comparisons, of_check), (0, degree));
             let (type_answer, _) = typed(&string, 16);
             let (step_answer, _) = stepped(&string, 1, 0, 16);
+            let (print_answer, _) = printed(&string, 73);
             if number != 0 {
                 assert_eq!(degree, 0);
                 assert_eq!(type_answer, answer(number, place, 0));
                 assert_eq!(step_answer, (number, place, 0));
+                assert_eq!(print_answer, (number, place, 0));
             } else {
                 assert_eq!(type_answer == TypeAnswer::None_, degree == 1);
+                assert_eq!(print_answer, (0, 0, 73));
             }
         }
     });
@@ -252,6 +258,7 @@ fn random_bytes() {
             examined(&bytes);
             typed(&bytes, 8);
             stepped(&bytes, rng.byte(), rng.next_u64() as u16, 8);
+            printed(&bytes, 80);
         }
     });
 }

@@ -5,11 +5,14 @@
 //!   file               number place start end
 //!   type N             number place length BUFFER, or none BUFFER
 //!   step KIND PLACE N  number place length BUFFER
+//!   print N            number place length BUFFER
 //!
 //! N is the buffer's length; it is filled with aa first and printed whole in
 //! hexadecimal.
 
-use reference::{apply_step, check, examine_file, examine_term, write_type, TypeAnswer};
+use reference::{
+    apply_step, check, examine_file, examine_term, print_term, write_type, StepAnswer, TypeAnswer,
+};
 use std::io::Read;
 use std::process::ExitCode;
 
@@ -27,7 +30,9 @@ fn main() -> ExitCode {
             ExitCode::SUCCESS
         }
         None => {
-            eprintln!("usage: reference [term | file | type N | step KIND PLACE N] < input");
+            eprintln!(
+                "usage: reference [term | file | type N | step KIND PLACE N | print N] < input"
+            );
             ExitCode::FAILURE
         }
     }
@@ -64,13 +69,19 @@ fn answer(arguments: &[&str], input: &[u8]) -> Option<String> {
         ["step", kind, place, length] => {
             let mut buffer = vec![0xaa; length.parse().ok()?];
             let a = apply_step(input, kind.parse().ok()?, place.parse().ok()?, &mut buffer);
-            Some(with_buffer(
-                format!("{} {} {}", a.number, a.place, a.len),
-                &buffer,
-            ))
+            Some(with_buffer(step_answer(a), &buffer))
+        }
+        ["print", length] => {
+            let mut buffer = vec![0xaa; length.parse().ok()?];
+            let a = print_term(input, &mut buffer);
+            Some(with_buffer(step_answer(a), &buffer))
         }
         _ => None,
     }
+}
+
+fn step_answer(a: StepAnswer) -> String {
+    format!("{} {} {}", a.number, a.place, a.len)
 }
 
 fn with_buffer(mut answer: String, buffer: &[u8]) -> String {

@@ -65,6 +65,13 @@ pub fn stepped(term: &[u8], kind: u8, place: u16, length: usize) -> ((u8, usize,
     ((a.number, a.place, a.len), buffer)
 }
 
+/// The print call into a buffer of aa, with the buffer after it.
+pub fn printed(term: &[u8], length: usize) -> ((u8, usize, usize), Vec<u8>) {
+    let mut buffer = vec![0xaa; length];
+    let a = print_term(term, &mut buffer);
+    ((a.number, a.place, a.len), buffer)
+}
+
 /// The result with aa after it up to the length.
 pub fn padded(result: &str, length: usize) -> Vec<u8> {
     let mut bytes = hex(result);
