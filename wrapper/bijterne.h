@@ -1,4 +1,4 @@
-/* The five calls of the proved checker, for C99 and C++. Link with libexports.a (README, 'From C and Rust').
+/* The six calls of the proved checker, for C99 and C++. Link with libexports.a (README, 'From C and Rust').
  *
  * A slice is a pointer and a length: s and n are the input, out and m the buffer that the caller lends. Each pointer is a
  * valid pointer, also for length 0. out overlaps neither s nor answer, and answer does not overlap s.
@@ -56,8 +56,16 @@ uint32_t bijterne_write_type(const uint8_t *s, size_t n, uint8_t *out, size_t m,
  * refused). */
 void bijterne_apply_step(const uint8_t *s, size_t n, uint8_t kind, uint16_t place, uint8_t *out, size_t m, uint64_t answer[3]);
 
+/* No page is longer: a buffer of this length is always enough for bijterne_print_term. */
+#define BIJTERNE_LONGEST_PAGE 16644
+
+/* Prints a bare term as a page of text, to the start of out: numbers 3 to 6 and 14. Each byte of the term takes four columns,
+ * right-aligned: t for tau, A for fe, T for ff, or the index in decimal. A line has 18 of these and a line feed; the last is
+ * filled with blanks. No zero byte ends the page. answer: number, place, length written (0 if refused). */
+void bijterne_print_term(const uint8_t *s, size_t n, uint8_t *out, size_t m, uint64_t answer[3]);
+
 /* Checks a file: numbers 1 to 13. answer: number, place, comparisons completed, degree of the term (0 for numbers 1 to 6).
- * The deepest term needs 3 MiB of stack, and even a small file some 190 KiB; the other four calls need less than 48 KiB. */
+ * The deepest term needs 3 MiB of stack, and even a small file some 190 KiB; the other calls need less than 48 KiB. */
 void bijterne_check(const uint8_t *s, size_t n, uint64_t answer[4]);
 
 #ifdef __cplusplus

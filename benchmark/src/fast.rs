@@ -1,4 +1,5 @@
-//! The check of a file on bytes, made fast: written from documents 01 and 02, with the same answers as `reference`.
+//! The check of a file on bytes, and the printing of a term, made fast: written from documents 01 and 02, with the same answers
+//! as `reference`.
 //!
 //! Every term of a state is a piece of the file's term, so no term is copied in the walk. A piece is a place and an
 //! environment, which says for each abstractor of the text around the place which entry of R stands for it. Entries are
@@ -8,8 +9,10 @@
 //! What a state holds moves between R, W, Y and B, and its size changes only where a variable is typed. The scope of R and B
 //! never grows either but there, so that after an abstractor only what still waits is tested.
 
+use bijterne::Written;
+
 const MAX_FILE: usize = 65_535;
-const MAX_TERM: usize = 4096;
+pub const MAX_TERM: usize = 4096;
 const MAX_STATE: usize = 8192;
 const MAX_SCOPE: usize = 253;
 
@@ -964,4 +967,142 @@ fn lift_marked(body: &mut [u8; MAX_TERM], at: usize, size: usize, n: u8, scopes:
         }
     }
     usize::from(deepest)
+}
+
+// ---- Printing.
+
+/// Cells of a line, and its columns with the line feed.
+const CELLS: usize = 18;
+const LINE: usize = 73;
+
+/// A term of at most this many bytes is examined in a smaller buffer.
+const SMALL: usize = 64;
+
+/// What each byte prints.
+const PRINTED: [[u8; 4]; 256] = {
+    let mut printed = [*b"    "; 256];
+    let mut index = 1;
+    while index <= MAX_SCOPE {
+        printed[index][3] = b'0' + (index % 10) as u8;
+        if index >= 10 {
+            printed[index][2] = b'0' + (index / 10 % 10) as u8;
+        }
+        if index >= 100 {
+            printed[index][1] = b'0' + (index / 100) as u8;
+        }
+        index += 1;
+    }
+    printed[0][3] = b't';
+    printed[APPLICATOR as usize][3] = b'A';
+    printed[ABSTRACTOR as usize][3] = b'T';
+    printed
+};
+
+/// Prints a term, in a buffer cleared for examining it.
+pub fn print(t: &[u8], out: &mut [u8]) -> Written {
+    if t.len() <= SMALL {
+        print_by(&mut [0; SMALL], t, out)
+    } else {
+        print_by(&mut [0; MAX_TERM], t, out)
+    }
+}
+
+/// Prints a term, in a buffer that is kept and not cleared.
+pub fn print_in(space: &mut Space, t: &[u8], out: &mut [u8]) -> Written {
+    print_by(&mut space.scopes, t, out)
+}
+
+/// The length of the page of so many bytes.
+pub fn page_length(bytes: usize) -> usize {
+    bytes.div_ceil(CELLS) * LINE
+}
+
+#[inline(never)]
+fn print_by<const N: usize>(after: &mut [u8; N], t: &[u8], out: &mut [u8]) -> Written {
+    let length = page_length(t.len());
+    let examined = examine_scopes(after, t).and_then(|()| out.get_mut(..length).ok_or(Refusal { number: 14, place: 0 }));
+    match examined {
+        Ok(page) => {
+            write_page(t, page);
+            Written { number: 0, place: 0, length }
+        }
+        Err(Refusal { number, place }) => Written { number, place, length: 0 },
+    }
+}
+
+/// Conditions 4, 3, then 5 and 6, as in `examine`, noting only how many abstractors are in scope after each open item. Three
+/// sorts of runs are read in turn: items with more items inside, items with a terminal inside, and terminals that end items.
+fn examine_scopes<const N: usize>(after: &mut [u8; N], t: &[u8]) -> Result<(), Refusal> {
+    if t.len() > MAX_TERM {
+        return refuse(4, 0);
+    }
+    let at = |i: usize| t.get(i).copied().ok_or(Refusal { number: 3, place: t.len() });
+    let too_many = |item: u8, depth: u8| item == ABSTRACTOR && usize::from(depth) == MAX_SCOPE;
+    let mut depth = 0;
+    let mut opened = 0;
+    let mut i = 0;
+    let mut byte = at(0)?;
+    loop {
+        while byte >= APPLICATOR {
+            let inside = at(i + 1)?;
+            if inside < APPLICATOR {
+                break;
+            }
+            if too_many(byte, depth) {
+                return unless_unbalanced(t, 6, i);
+            }
+            after[opened & (N - 1)] = depth + (byte - APPLICATOR);
+            opened += 1;
+            i += 1;
+            byte = inside;
+        }
+        while byte >= APPLICATOR {
+            let inside = at(i + 1)?;
+            if inside >= APPLICATOR {
+                break;
+            }
+            if too_many(byte, depth) {
+                return unless_unbalanced(t, 6, i);
+            }
+            if inside > depth {
+                return unless_unbalanced(t, 5, i + 1);
+            }
+            depth += byte - APPLICATOR;
+            i += 2;
+            byte = at(i)?;
+        }
+        while byte < APPLICATOR {
+            if byte > depth {
+                return unless_unbalanced(t, 5, i);
+            }
+            if opened == 0 {
+                return if i + 1 < t.len() { refuse(3, i + 1) } else { Ok(()) };
+            }
+            opened -= 1;
+            depth = after[opened & (N - 1)];
+            i += 1;
+            byte = at(i)?;
+        }
+    }
+}
+
+/// The page of the term, as long as it is.
+fn write_page(t: &[u8], page: &mut [u8]) {
+    let full = t.chunks_exact(CELLS);
+    let rest = full.remainder();
+    let mut lines = page.chunks_exact_mut(LINE);
+    for (bytes, line) in full.zip(&mut lines) {
+        write_line(bytes, line);
+    }
+    if let Some(line) = lines.next() {
+        line.fill(b' ');
+        write_line(rest, line);
+    }
+}
+
+fn write_line(bytes: &[u8], line: &mut [u8]) {
+    for (cell, &byte) in line.chunks_exact_mut(4).zip(bytes) {
+        cell.copy_from_slice(&PRINTED[usize::from(byte)]);
+    }
+    line[LINE - 1] = b'\n';
 }

@@ -7,23 +7,35 @@ use reference::normaliser::{in_parts, meet, possible_steps, Pairs, Reduction};
 use reference::term::{abs, app, Term};
 use reference::walk::walk;
 
+/// What is called with an input: a file is checked, or a bare term printed.
+#[derive(Clone, Copy)]
+pub enum Call {
+    Check,
+    Print,
+}
+
 pub struct Input {
     pub name: &'static str,
     pub what: &'static str,
+    pub call: Call,
     /// The number of the answer: 0, or that of the refusal that the input is about.
-    pub number: u32,
+    pub number: usize,
     pub make: fn() -> Vec<u8>,
 }
 
 const fn accepted(name: &'static str, what: &'static str, make: fn() -> Vec<u8>) -> Input {
-    Input { name, what, number: 0, make }
+    Input { name, what, call: Call::Check, number: 0, make }
 }
 
-const fn refused(name: &'static str, what: &'static str, number: u32, make: fn() -> Vec<u8>) -> Input {
-    Input { name, what, number, make }
+const fn refused(name: &'static str, what: &'static str, number: usize, make: fn() -> Vec<u8>) -> Input {
+    Input { name, what, call: Call::Check, number, make }
 }
 
-pub const ALL: [Input; 23] = [
+const fn printed(name: &'static str, what: &'static str, make: fn() -> Vec<u8>) -> Input {
+    Input { name, what, call: Call::Print, number: 0, make }
+}
+
+pub const ALL: [Input; 27] = [
     accepted("small", "small file (E3 of document 01)", small),
     accepted("book1", "book of 1 KB", || book(1023, 0, SHORT)),
     accepted("book2", "book of 2 KB", || book(2047, 0, SHORT)),
@@ -47,6 +59,10 @@ pub const ALL: [Input; 23] = [
     accepted("whole", "book of relations, pairs by kind 3", || relations(Pairs::Whole)),
     accepted("parts", "the same book, pairs by kinds 1 and 2", || relations(Pairs::InParts)),
     accepted("(8)", "(8) 1,600 substitutions to 4,095 bytes", || substitutions(23, 177, 800)),
+    printed("pageS", "page of a small term (E3 of document 01)", || E3.to_vec()),
+    printed("pageB", "page of the book of 4 KB", || book_term(4095, 0).bytes()),
+    printed("pageU", "page of 2,047 deep in U", || gen::nested(2047)),
+    printed("page3", "page of 1,795 indices of three digits", long_indices),
 ];
 
 fn joined(parts: &[&[u8]]) -> Vec<u8> {
@@ -65,9 +81,10 @@ fn group(left: Vec<Step>, right: Vec<Step>) -> Group {
     Group { head: 0, left, right }
 }
 
+const E3: [u8; 13] = [0xff, 0, 0xff, 1, 0xfe, 2, 0xff, 0, 0xfe, 2, 0xff, 1, 1];
+
 fn small() -> Vec<u8> {
-    let term = [0xff, 0, 0xff, 1, 0xfe, 2, 0xff, 0, 0xfe, 2, 0xff, 1, 1];
-    gen::file(&term, &[group(vec![], vec![]), group(vec![], vec![local(0)])])
+    gen::file(&E3, &[group(vec![], vec![]), group(vec![], vec![local(0)])])
 }
 
 // ---- Books.
@@ -514,4 +531,12 @@ fn long_bodies(uses: usize, count: usize) -> Vec<u8> {
     let n = |p| uses_of(p, uses);
     let term = joined(&[&[0xff, 0, 0xff], &n(1), &[0xff, 0xff], &n(2), &[0], &applications(2, 1, count)]);
     gen::file(&term, &empty_groups(count))
+}
+
+// ---- Pages.
+
+/// Under 253 abstractors, applicators of the outer ones, to 4,095 bytes.
+fn long_indices() -> Vec<u8> {
+    let applicators = (0..1794).flat_map(|i| [0xfe, (100 + i * 5 % 154) as u8]).collect::<Vec<u8>>();
+    joined(&[&times(253, &[0xff, 0]), &applicators, &[253]])
 }

@@ -2,7 +2,7 @@
 //!
 //!     benchmark                            every input: the answers of all three implementations, then the times
 //!     benchmark quick                      the same without the reference's answers, which take a minute
-//!     benchmark agree SEED COUNT           fast and proved against the reference on generated files
+//!     benchmark agree SEED COUNT           fast and proved against the reference on generated files and bare terms
 //!     benchmark wrapper                    the three ways to check a file from Rust
 //!     benchmark one NAME proved|fast [N]   one input alone, N times, for a profiler
 
@@ -10,8 +10,9 @@ mod chains;
 mod fast;
 mod inputs;
 
+use bijterne::{Written, LONGEST_PAGE};
 use fast::{Answer, Space};
-use inputs::Input;
+use inputs::{Call, Input};
 use reference::file::read_fields;
 use reference::frame::SUBSTITUTION;
 use reference::gen::{self};
@@ -42,41 +43,96 @@ fn usage() -> ! {
 
 // ---- Answers.
 
-fn reference_answer(file: &[u8]) -> Answer {
+/// The implementations: those that are timed, and the reference.
+const PROVED: usize = 0;
+const CLEARED: usize = 1;
+const KEPT: usize = 2;
+const REFERENCE: usize = 3;
+
+/// The numbers of an answer in turn: of a check four, of printing three and a 0.
+type Numbers = [usize; 4];
+
+/// One call. Where a page is printed, the buffer is lent for it.
+fn answer(call: Call, which: usize, bytes: &[u8], space: &mut Space, buffer: &mut [u8]) -> Numbers {
+    match call {
+        Call::Check => of_check(match which {
+            PROVED => proved_check(bytes),
+            CLEARED => fast::check(bytes),
+            KEPT => fast::check_in(space, bytes),
+            _ => reference_check(bytes),
+        }),
+        Call::Print => {
+            let Written { number, place, length } = match which {
+                PROVED => bijterne::print_term(bytes, buffer),
+                CLEARED => fast::print(bytes, buffer),
+                KEPT => fast::print_in(space, bytes, buffer),
+                _ => reference_page(bytes, buffer),
+            };
+            [number as usize, place, length, 0]
+        }
+    }
+}
+
+fn of_check(a: Answer) -> Numbers {
+    [a.number as usize, a.place, a.comparisons, a.degree]
+}
+
+fn reference_check(file: &[u8]) -> Answer {
     let a = reference::check(file);
     Answer { number: a.number.into(), place: a.place, comparisons: a.comparisons, degree: a.degree as usize }
 }
 
+fn reference_page(term: &[u8], buffer: &mut [u8]) -> Written {
+    let a = reference::print_term(term, buffer);
+    Written { number: a.number.into(), place: a.place, length: a.len }
+}
+
 /// On the caller's stack, which `main` makes large.
-fn proved_answer(file: &[u8]) -> Answer {
+fn proved_check(file: &[u8]) -> Answer {
     // SAFETY: the stack is larger than any check needs.
     let a = unsafe { bijterne::check_here(file) };
     Answer { number: a.number, place: a.place, comparisons: a.comparisons, degree: a.degree }
 }
 
-/// Generated files: every tenth with chains of copied text, every tenth at a limit, and of the others one in eight too.
+/// The answer that all implementations up to `last` give, each with the same bytes in a buffer of this length after the call.
+fn common_answer(what: &str, call: Call, last: usize, bytes: &[u8], length: usize, space: &mut Space) -> Numbers {
+    let mut one = |which: usize| {
+        let mut buffer = vec![0xaa; length];
+        (answer(call, which, bytes, space, &mut buffer), buffer)
+    };
+    let (given, buffer) = one(PROVED);
+    for which in PROVED + 1..=last {
+        let (other, other_buffer) = one(which);
+        if (other, &other_buffer) != (given, &buffer) {
+            let who = ["proved", "cleared", "kept", "reference"][which];
+            println!("{what}: proved {given:?}, {who} {other:?}\n{bytes:02x?}\n{buffer:02x?}\n{other_buffer:02x?}");
+            exit(1);
+        }
+    }
+    given
+}
+
 fn agree(seed: u64, count: u64) {
     let mut rng = Rng::new(seed);
     let mut space = Box::new(Space::new());
+    agree_on_files(&mut rng, seed, count, &mut space);
+    agree_on_pages(&mut rng, seed, count, &mut space);
+}
+
+/// Generated files: every tenth with chains of copied text, every tenth at a limit, and of the others one in eight too.
+fn agree_on_files(rng: &mut Rng, seed: u64, count: u64, space: &mut Space) {
     let mut numbers = [0; 15];
     // Accepted files with a step of kind 3.
     let mut whole = 0;
     for i in 0..count {
         let file = match i % 10 {
-            0 => chains::chain_file(&mut rng),
-            1 => gen::limit_file(&mut rng),
-            _ => gen::random_file(&mut rng),
+            0 => chains::chain_file(rng),
+            1 => gen::limit_file(rng),
+            _ => gen::random_file(rng),
         };
-        let want = reference_answer(&file);
-        let kept = fast::check_in(&mut space, &file);
-        let cleared = fast::check(&file);
-        let proved = proved_answer(&file);
-        if [kept, cleared, proved] != [want; 3] {
-            println!("file {i} of seed {seed}: reference {want:?}, fast {kept:?} {cleared:?}, proved {proved:?}\n{file:02x?}");
-            exit(1);
-        }
-        numbers[want.number as usize] += 1;
-        if let (0, Ok(fields)) = (want.number, read_fields(&file)) {
+        let [number, ..] = common_answer(&format!("file {i} of seed {seed}"), Call::Check, REFERENCE, &file, 0, space);
+        numbers[number] += 1;
+        if let (0, Ok(fields)) = (number, read_fields(&file)) {
             let mut steps = fields.groups.iter().flat_map(|group| group.left.iter().chain(&group.right));
             whole += usize::from(steps.any(|step| step.kind == SUBSTITUTION));
         }
@@ -88,45 +144,80 @@ fn agree(seed: u64, count: u64) {
     }
 }
 
+/// Generated bare terms, every fifth near a limit, printed into buffers of about their page's length, or any less.
+fn agree_on_pages(rng: &mut Rng, seed: u64, count: u64, space: &mut Space) {
+    let mut numbers = [0; 15];
+    for i in 0..count {
+        let term = match i % 5 {
+            0 => term_near_limit(rng),
+            _ => gen::bare_term(rng),
+        };
+        let page = fast::page_length(term.len());
+        let length = match rng.below(3) {
+            0 => rng.below(page + 1),
+            1 => page.saturating_sub(1),
+            _ => page + rng.below(3),
+        };
+        let what = format!("bare term {i} of seed {seed}");
+        let [number, ..] = common_answer(&what, Call::Print, REFERENCE, &term, length, space);
+        numbers[number] += 1;
+    }
+    let reached = [0, 3, 4, 5, 6, 14].map(|number: usize| numbers[number]);
+    println!("{count} bare terms printed alike; answers 0, 3 to 6 and 14: {reached:?}");
+    if count >= 300 && reached.contains(&0) {
+        println!("MISSING an answer of printing");
+        exit(1);
+    }
+}
+
+/// About 4,096 bytes, or index 253 with about 253 abstractors in scope.
+fn term_near_limit(rng: &mut Rng) -> Vec<u8> {
+    if rng.below(2) == 0 {
+        let mut term = gen::nested(2047);
+        term.resize(rng.between(4093, 4099), 0);
+        term
+    } else {
+        [gen::times(rng.between(252, 255), &[0xff, 0]), vec![253]].concat()
+    }
+}
+
 // ---- Times.
 
 /// An input with the best time of a call, in nanoseconds, of each implementation.
 struct Line {
     input: Input,
-    file: Vec<u8>,
-    best: [u64; 3],
+    bytes: Vec<u8>,
+    best: [f64; 3],
 }
-
-const PROVED: usize = 0;
-const CLEARED: usize = 1;
-const KEPT: usize = 2;
 
 /// A measurement calls as often as this time allows. Each round measures every input once with each implementation, and the
 /// best of all rounds counts, so that a busy while of the machine falls on all alike.
-const MEASUREMENT: u64 = 2_000_000;
+const MEASUREMENT: f64 = 2e6;
 const ROUNDS: usize = 100;
 
 fn benchmark(with_reference: bool) {
     println!(
-        "Release builds. proved: clears its own buffers in every call. cleared: fast, clears its {} bytes of buffers in every call.\n\
-         kept: fast, keeps its buffers and clears nothing. The best of {ROUNDS} interleaved measurements counts.\n",
-        std::mem::size_of::<Space>()
+        "Release builds. proved: clears its own buffers in every call. cleared: fast, clears its buffers in every call, {} bytes\n\
+         for a check, up to {} for a page. kept: fast, keeps its buffers and clears nothing. The best of {ROUNDS} interleaved\n\
+         measurements counts.\n",
+        std::mem::size_of::<Space>(),
+        fast::MAX_TERM
     );
     println!("{:56} {:>6} {:>6} {:>5} {:>6} {:>7}  answer of all", "input", "file", "term", "comp.", "steps", "states");
+    let mut space = Box::new(Space::new());
     let mut lines = Vec::new();
     for input in inputs::ALL {
-        let file = (input.make)();
-        verify(&input, &file, with_reference);
-        lines.push(Line { input, file, best: [u64::MAX; 3] });
+        let bytes = (input.make)();
+        verify(&input, &bytes, if with_reference { REFERENCE } else { KEPT }, &mut space);
+        lines.push(Line { input, bytes, best: [f64::MAX; 3] });
     }
-    let mut space = Box::new(Space::new());
     for _ in 0..ROUNDS {
         lines.iter_mut().for_each(|line| measure(line, &mut space));
     }
     println!("\n{:56} {:>14} {:>14}   this machine, us:", "", "proved/cleared", "proved/kept");
     println!("{:56} {:>14} {:>14} {:>10} {:>9} {:>9}", "input", "", "", "proved", "cleared", "kept");
     for line in &lines {
-        let [proved, cleared, kept] = line.best.map(|nanoseconds| nanoseconds as f64);
+        let [proved, cleared, kept] = line.best;
         println!(
             "{:56} {:>14.2} {:>14.2} {:>10.2} {:>9.2} {:>9.2}",
             line.input.what,
@@ -141,53 +232,46 @@ fn benchmark(with_reference: bool) {
     let line = |name: &str| lines.iter().find(|line| line.input.name == name).expect("there are books");
     let best = |name: &str| line(name).best;
     for (from, to, what) in [("book1", "book2", "1 to 2 KB"), ("book2", "book4", "2 to 4 KB")] {
-        let growth = |which: usize| best(to)[which] as f64 / best(from)[which] as f64;
+        let growth = |which: usize| best(to)[which] / best(from)[which];
         println!("from {what}: proved {:.2}, cleared {:.2}, kept {:.2}", growth(PROVED), growth(CLEARED), growth(KEPT));
     }
     let (whole, parts) = (line("whole"), line("parts"));
-    let of = |which: usize| whole.best[which] as f64 / parts.best[which] as f64;
-    let bytes = whole.file.len() as f64 / parts.file.len() as f64;
+    let of = |which: usize| whole.best[which] / parts.best[which];
+    let bytes = whole.bytes.len() as f64 / parts.bytes.len() as f64;
     println!("\nA book with kind 3 against the same with kinds 1 and 2:");
     println!("bytes {bytes:.2}; time: proved {:.2}, cleared {:.2}, kept {:.2}", of(PROVED), of(CLEARED), of(KEPT));
 }
 
-/// All implementations give one answer, with the number that the input is made for.
-fn verify(input: &Input, file: &[u8], with_reference: bool) {
-    let (answer, counts) = fast::count(file);
-    let mut answers = vec![proved_answer(file), fast::check(file)];
-    if with_reference {
-        answers.push(reference_answer(file));
-    }
-    let term = usize::from(file[1]) << 8 | usize::from(file[2]);
-    let Answer { number, place, comparisons, degree } = answer;
-    println!(
-        "{:56} {:>6} {:>6} {:>5} {:>6} {:>7}  {number} {place} {comparisons} {degree}",
-        input.what,
-        file.len(),
-        term,
-        comparisons,
-        counts.steps,
-        counts.own + counts.copied
-    );
-    if number != input.number || answers.iter().any(|other| *other != answer) {
-        println!("the answers differ: {answers:?}");
+/// All implementations up to `last` give one answer, with the number that the input is made for.
+fn verify(input: &Input, bytes: &[u8], last: usize, space: &mut Space) {
+    let given = common_answer(input.what, input.call, last, bytes, LONGEST_PAGE, space);
+    let (counted, columns, shown) = match input.call {
+        Call::Check => {
+            let (answer, counts) = fast::count(bytes);
+            let term = usize::from(bytes[1]) << 8 | usize::from(bytes[2]);
+            let columns = [bytes.len(), term, answer.comparisons, counts.steps, counts.own + counts.copied];
+            (of_check(answer), columns.map(|column| column.to_string()), &given[..])
+        }
+        Call::Print => (given, ["", &bytes.len().to_string(), "", "", ""].map(String::from), &given[..3]),
+    };
+    let [file, term, comparisons, steps, states] = columns;
+    let shown: Vec<String> = shown.iter().map(usize::to_string).collect();
+    println!("{:56} {file:>6} {term:>6} {comparisons:>5} {steps:>6} {states:>7}  {}", input.what, shown.join(" "));
+    if given[0] != input.number || counted != given {
+        println!("the number should be {}, and counting gives {counted:?}", input.number);
         exit(1);
     }
 }
 
 fn measure(line: &mut Line, space: &mut Space) {
+    let mut buffer = vec![0; LONGEST_PAGE];
     for which in [PROVED, CLEARED, KEPT] {
-        let calls = (MEASUREMENT / line.best[which]).max(1);
+        let calls = (MEASUREMENT / line.best[which]).max(1.0) as u64;
         let from = now();
         for _ in 0..calls {
-            let file = black_box(&line.file[..]);
-            black_box(match which {
-                PROVED => proved_answer(file),
-                CLEARED => fast::check(file),
-                _ => fast::check_in(space, file),
-            });
+            black_box(answer(line.input.call, which, black_box(&line.bytes), space, black_box(&mut buffer)));
         }
-        line.best[which] = line.best[which].min((now() - from) / calls);
+        line.best[which] = line.best[which].min((now() - from) as f64 / calls as f64);
     }
 }
 
@@ -205,7 +289,7 @@ fn wrapper() {
                 match round % 3 {
                     0 => drop(black_box(bijterne::check(file))),
                     1 => drop(black_box(checker.check(file))),
-                    _ => drop(black_box(proved_answer(file))),
+                    _ => drop(black_box(proved_check(file))),
                 }
             }
             best[round % 3] = best[round % 3].min(from.elapsed().as_secs_f64() * 1e4);
@@ -237,14 +321,15 @@ fn one(name: &str, which: &str, count: u64) {
         eprintln!("the inputs are {names:?}");
         exit(2);
     };
-    let file = (input.make)();
+    let which = match which {
+        "proved" => PROVED,
+        "fast" => KEPT,
+        _ => usage(),
+    };
+    let bytes = (input.make)();
     let mut space = Box::new(Space::new());
+    let mut buffer = vec![0; LONGEST_PAGE];
     for _ in 0..count {
-        let file = black_box(&file[..]);
-        black_box(match which {
-            "proved" => proved_answer(file),
-            "fast" => fast::check_in(&mut space, file),
-            _ => usage(),
-        });
+        black_box(answer(input.call, which, black_box(&bytes), &mut space, black_box(&mut buffer)));
     }
 }

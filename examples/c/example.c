@@ -1,4 +1,4 @@
-/* All five calls on small inputs, one line for each. The Rust example prints the same lines. */
+/* All six calls on small inputs, one line for each, and a page. The Rust example prints the same lines. */
 #include <inttypes.h>
 #include <stdio.h>
 #include <string.h>
@@ -62,6 +62,17 @@ static void write_type(const char *what, const uint8_t *s, size_t n, size_t m)
     bytes(out, m);
 }
 
+/* Into m bytes; then the page. */
+static void print_term(const char *what, const uint8_t *s, size_t n, size_t m)
+{
+    uint8_t out[BIJTERNE_LONGEST_PAGE];
+    uint64_t answer[3];
+    bijterne_print_term(s, n, out, m, answer);
+    numbers(what, answer, 3);
+    printf("\n");
+    fwrite(out, 1, (size_t)answer[2], stdout);
+}
+
 /* The file of a term of abstractors, each inside the one before. */
 static void check_deep(const char *what, size_t depth)
 {
@@ -111,6 +122,9 @@ int main(void)
     write_type("type of E1", e1, sizeof e1, 8);
     write_type("type of E1 into 4 bytes", e1, sizeof e1, 4);
     write_type("type of tau", tau, sizeof tau, 4);
+
+    print_term("print", term, sizeof term, BIJTERNE_LONGEST_PAGE);
+    print_term("print into 72 bytes", term, sizeof term, 72);
 
     bijterne_examine_file(cut_short, sizeof cut_short, answer);
     numbers("examine a file cut short", answer, 3);

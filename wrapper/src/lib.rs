@@ -1,4 +1,4 @@
-//! The five calls of the proved checker, for Rust. No call relies on an earlier one, and every call returns.
+//! The six calls of the proved checker, for Rust. No call relies on an earlier one, and every call returns.
 //!
 //! `number` is 0 if accepted, else the number of the refusal (module `number`; docs/REFUSALS.md), and `place` says where. At a
 //! refusal a lent buffer keeps every byte; after a result it keeps every byte past it.
@@ -12,6 +12,7 @@ mod raw {
         pub fn bijterne_examine_file(s: *const u8, n: usize, answer: *mut [u64; 3]);
         pub fn bijterne_write_type(s: *const u8, n: usize, out: *mut u8, m: usize, answer: *mut [u64; 3]) -> u32;
         pub fn bijterne_apply_step(s: *const u8, n: usize, kind: u8, place: u16, out: *mut u8, m: usize, answer: *mut [u64; 3]);
+        pub fn bijterne_print_term(s: *const u8, n: usize, out: *mut u8, m: usize, answer: *mut [u64; 3]);
         pub fn bijterne_check(s: *const u8, n: usize, answer: *mut [u64; 4]);
     }
 }
@@ -51,7 +52,7 @@ pub struct FileAnswer<'a> {
     pub term: &'a [u8],
 }
 
-/// Of `write_type` and `apply_step`.
+/// Of `write_type`, `apply_step` and `print_term`.
 #[derive(Clone, Copy, Debug, PartialEq, Eq)]
 pub struct Written {
     pub number: u32,
@@ -72,6 +73,9 @@ pub struct CheckAnswer {
 
 /// The stack that a check needs, whatever the file.
 pub const CHECK_STACK_BYTES: usize = 4 << 20;
+
+/// No page is longer: a buffer of this length is always enough for `print_term`.
+pub const LONGEST_PAGE: usize = 16644;
 
 /// Examines a bare term: conditions 3 to 6.
 pub fn examine_term(term: &[u8]) -> TermAnswer {
@@ -104,6 +108,16 @@ pub fn apply_step(term: &[u8], kind: u8, place: u16, out: &mut [u8]) -> Written 
     let mut a = [0; 3];
     // SAFETY: as above.
     unsafe { raw::bijterne_apply_step(term.as_ptr(), term.len(), kind, place, out.as_mut_ptr(), out.len(), &mut a) };
+    written(a)
+}
+
+/// Prints a bare term as a page of text, to the start of `out`. Each byte of the term takes four columns, right-aligned: `t`
+/// for tau, `A` for fe, `T` for ff, or the index in decimal. A line has 18 of these and a line feed; the last is filled with
+/// blanks.
+pub fn print_term(term: &[u8], out: &mut [u8]) -> Written {
+    let mut a = [0; 3];
+    // SAFETY: as above.
+    unsafe { raw::bijterne_print_term(term.as_ptr(), term.len(), out.as_mut_ptr(), out.len(), &mut a) };
     written(a)
 }
 

@@ -1,6 +1,7 @@
-//! All five calls on small inputs, one line for each. The C example prints the same lines.
+//! All six calls on small inputs, one line for each, and a page. The C example prints the same lines.
 
-use bijterne::{apply_step, check, examine_file, examine_term, write_type, CheckAnswer, Checker, Written};
+use bijterne::{apply_step, check, examine_file, examine_term, print_term, write_type};
+use bijterne::{CheckAnswer, Checker, Written, LONGEST_PAGE};
 use std::thread;
 
 /// [a:tau] [x:a] <x> [y:a] y, and its file: the term, then a group with no steps.
@@ -51,6 +52,13 @@ fn show_type(what: &str, term: &[u8], length: usize) {
     println!("{what}: {answer},{}", bytes(&out));
 }
 
+/// Into this many bytes; then the page.
+fn show_page(what: &str, term: &[u8], length: usize) {
+    let mut out = vec![0xaa; length];
+    let a = print_term(term, &mut out);
+    print!("{what}: {}\n{}", numbers(a), String::from_utf8_lossy(&out[..a.length]));
+}
+
 /// The file of a term of abstractors, each inside the one before.
 fn deep(depth: usize) -> Vec<u8> {
     let n = 2 * depth + 1;
@@ -85,6 +93,9 @@ fn main() {
     show_type("type of E1", E1, 8);
     show_type("type of E1 into 4 bytes", E1, 4);
     show_type("type of tau", TAU, 4);
+
+    show_page("print", TERM, LONGEST_PAGE);
+    show_page("print into 72 bytes", TERM, 72);
 
     let a = examine_file(CUT_SHORT);
     println!("examine a file cut short: {} {} {}", a.number, a.place, a.term.len());
