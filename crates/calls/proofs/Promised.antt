@@ -24,8 +24,8 @@ use Rattle.code.specs.Code.{Bytes, encode}
 use Rattle.code.specs.Scope.{scope, Fits}
 use Rattle.code.proofs.RoundTrip.{length-encode, decode-encode}
 use Rattle.code.proofs.Scope.{closed-coded}
-use Rattle.examine.specs.Inspect.{Examined, refused, accepted, examined, termAnswer, termAnswerOf}
-use Rattle.examine.proofs.Laws.{number-zero}
+use Rattle.examine.specs.Inspect.{Examined, refused, accepted, examined}
+use Rattle.examine.proofs.Laws.{examining-holds}
 use Rattle.parts.proofs.Stores.{take-sets-end}
 use Rattle.verdict.specs.Bounds.{bodyFits}
 use Rattle.verdict.proofs.Runs.{cond-both}
@@ -86,13 +86,8 @@ step-ways s out x = go (examined s) refl
     go (accepted t) h = stepped h (step ε x t) refl
 
 -- A refusal's number is not 0.
-refusal-number : (s : List ℕ) {n p : ℕ} → examined s ≡ refused n p → n ≡ 0 → ⊥
-unfolding termAnswer termAnswerOf
-refusal-number s h z =
-    let x = number-zero s (ap (λ (y : Examined). termAnswerOf y .number) h ∙ z) in
-    let y = x .1 in
-    let w : _≡_ {A = ℕ} 0 1 = cc in
-    omega arith
+pub refusal-number : (s : List ℕ) {n p : ℕ} → examined s ≡ refused n p → n ≡ 0 → ⊥
+refusal-number s h z = let b = examining-holds .numbers s h in omega (arith, b .0)
 
 -- Number 0, and any other.
 record Led (s out : List ℕ) (leads : Term → Term → Type 0) (place n : ℕ) (out′ : List ℕ) : Type 0 where

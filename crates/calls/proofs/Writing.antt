@@ -42,10 +42,10 @@ pub accepts : {s : List ℕ} {t : Term} → Bytes s → examined s ≡ accepted 
 accepts {s} {t} y = examining-holds .accepts s t y .0
 
 module _ {s : List ℕ} {t : Term} (y : Bytes s) (a : WellFormed s t) where
-  encodes : Encodes s t
+  pub encodes : Encodes s t
   encodes = encode-decode s t y (a .decodes)
 
-  whole-size : length s ≡ size t
+  pub whole-size : length s ≡ size t
   whole-size = ap length (sym (encodes .bytes)) ∙ length-encode t
 
   stands-whole : Stands s 0 (length s) t

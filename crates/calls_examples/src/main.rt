@@ -1,5 +1,5 @@
-// The five calls from Rattle, a line for each: its name, its answer, and the part that it hands back or the buffer as it is left,
-// which was filled with aa. differential/src/named.rs has the examples and the edges.
+// The calls from Rattle, a line for each: its name, its answer, and the part that it hands back or the buffer as it is left, which was
+// filled with aa; of a page the text. differential/src/named.rs has the examples and the edges.
 fn number(n: usize) {
     io::write_all(1, b" ");
     io::print_decimal(1, n as u64);
@@ -67,6 +67,19 @@ fn apply_step(s: &[u8], kind: u8, place: u16) {
     bytes(&out);
 }
 
+fn print_term(s: &[u8]) {
+    let mut out: [u8; 73] = [0xaa; 73];
+    let r = printing::print_term(s, &mut out);
+    io::write_all(1, b"print a term:");
+    number(r.number as usize);
+    number(r.place);
+    number(r.length);
+    io::write_all(1, b"\n");
+    if r.number == 0 {
+        io::write_all(1, &out);
+    }
+}
+
 fn check(s: &[u8]) {
     let r = checker::check(s);
     io::write_all(1, b"check a file:");
@@ -86,5 +99,7 @@ fn main() {
     apply_step(b"\xff\x00\xfe\x01\xff\x01\x02", 2, 2);
     apply_step(b"\xff\x00\xfe\x01\xff\x01\x01", 2, 2);
     apply_step(b"\xff\x00\xfe\x01\xff\x01\x01", 3, 2);
+    print_term(b"\xff\x00\xff\x01\xfe\x01\xff\x02\x01");
+    print_term(b"\x01");
     check(b"\x01\x00\x09\xff\x00\xff\x01\xfe\x01\xff\x02\x01\x02\x00\x00\x03\x00\x00");
 }

@@ -3,9 +3,9 @@
 use Prim.Native.Nat.{ℕ, zero, suc, _+_, _*_, _-_, _/_, _%_, _≤_, _<_}
 use mathlib.Core.Path.{_≡_, refl, ap, sym, _∙_}
 use mathlib.Core.Logic.{_↔_}
-use mathlib.Core.List.{List, [], _∷_}
+use mathlib.Core.List.{List, [], _∷_, _++_}
 use native.Mathlib.Omega.{arith}
-use lib.ListN.{length, getD}
+use lib.ListN.{length, getD, take, drop}
 use borrow.Author.Tests.{ne-eqb}
 use Rattle.printing.specs.declared.Cell.{Cell}
 use Rattle.printing.specs.Page.{blank, lineFeed, cellsInLine, lineLength, letterCell, columns, filled, lines, pageLength}
@@ -84,6 +84,51 @@ feeds-lines (suc n) k (more {c} {cs} s x) h e = rw (lines-room n c cs) (feeds-sh
 
 pub page-feeds : {cs : List Cell} → AllShown cs → (i : ℕ) → i < length (lines cellsInLine cs) → (getD (lines cellsInLine cs) i 0 ≡ lineFeed) ↔ (i % lineLength ≡ 72)
 page-feeds x i h = let e : i + 0 ≡ i = omega arith in rw e at (feeds-lines cellsInLine 0 x (omega arith) (omega arith) .fed i h)
+
+-- ---- Where a cell stands: cells with room for n more stand from the place of the j-th line where its other cells end.
+columnsAt : ℕ → List ℕ → List ℕ
+columnsAt d p = take 4 (drop d p)
+
+module _ (c : Cell) (ys : List Cell) where
+  cell-first : (n d : ℕ) → (n ≡ 0 → d ≡ 1) → ((n ≡ 0 → ⊥) → d ≡ 0) → columnsAt d (lines n (c ∷ ys)) ≡ columns c []
+  unfolding columnsAt
+  cell-first zero d h z = rw (lines-full c ys, h refl)
+  cell-first (suc n) d h z = rw (lines-room n c ys, z (λ e. omega arith))
+
+  cell-later : (x : Cell) (xs : List Cell) (n d : ℕ) → 1 ≤ n → columnsAt d (lines (n - 1) (xs ++ c ∷ ys)) ≡ columns c [] → columnsAt (d + 4) (lines n (x ∷ (xs ++ c ∷ ys))) ≡ columns c []
+  unfolding columnsAt
+  cell-later x xs zero d h e = absurd (omega arith)
+  cell-later x xs (suc n) d h e =
+      let p : suc n - 1 ≡ n = omega arith in
+      let q : d + 4 ≡ suc (suc (suc (suc d))) = omega arith in
+      rw (lines-room n x (xs ++ c ∷ ys), q) (rw p at e)
+
+  cell-after-feed : (x : Cell) (xs : List Cell) (d : ℕ) → columnsAt d (lines 17 (xs ++ c ∷ ys)) ≡ columns c [] → columnsAt (d + 5) (lines 0 (x ∷ (xs ++ c ∷ ys))) ≡ columns c []
+  unfolding columnsAt
+  cell-after-feed x xs d e = let q : d + 5 ≡ suc (suc (suc (suc (suc d)))) = omega arith in rw (lines-full x (xs ++ c ∷ ys), q) e
+
+  -- q is the place of the cell with the number m, and j lines and 18 - n cells stand before.
+  lines-cell : (xs : List Cell) (n j m q : ℕ) → n ≤ cellsInLine → m + n ≡ j * 18 + 18 + length xs → q ≡ lineLength * (m / cellsInLine) + 4 * (m % cellsInLine)
+      → columnsAt (q - (j * 73 + (18 - n) * 4)) (lines n (xs ++ c ∷ ys)) ≡ columns c []
+  lines-cell [] n j m q h e r = cell-first n (q - (j * 73 + (18 - n) * 4)) (λ z. omega arith) (λ z. omega (arith, positive n z))
+    where
+      positive : (n : ℕ) → (n ≡ 0 → ⊥) → 1 ≤ n
+      positive zero z = absurd (z refl)
+      positive (suc n) z = omega arith
+  lines-cell (x ∷ xs) zero j m q h e r =
+      let p : q - (j * 73 + (18 - 0) * 4) ≡ q - ((j + 1) * 73 + (18 - 17) * 4) + 5 = omega arith in
+      rw p (cell-after-feed x xs (q - ((j + 1) * 73 + (18 - 17) * 4)) (lines-cell xs 17 (j + 1) m q (omega arith) (omega arith) r))
+  lines-cell (x ∷ xs) (suc n) j m q h e r =
+      let t : suc n - 1 ≡ n = omega arith in
+      let p : q - (j * 73 + (18 - suc n) * 4) ≡ q - (j * 73 + (18 - n) * 4) + 4 = omega arith in
+      rw p (cell-later x xs (suc n) (q - (j * 73 + (18 - n) * 4)) (omega arith) (rw t (lines-cell xs n j m q (omega arith) (omega arith) r)))
+
+pub page-cell : (xs : List Cell) (c : Cell) (ys : List Cell) → take 4 (drop (lineLength * (length xs / cellsInLine) + 4 * (length xs % cellsInLine)) (lines cellsInLine (xs ++ c ∷ ys))) ≡ columns c []
+unfolding columnsAt
+page-cell xs c ys =
+    let q = lineLength * (length xs / cellsInLine) + 4 * (length xs % cellsInLine) in
+    let z : q - (0 * 73 + (18 - 18) * 4) ≡ q = omega arith in
+    rw z at (lines-cell c ys xs 18 0 (length xs) q (omega arith) (omega arith) refl)
 
 -- ---- They tell the cells.
 cell : ℕ → ℕ → ℕ → ℕ → Cell

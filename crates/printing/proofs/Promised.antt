@@ -1,15 +1,15 @@
 -- What is promised of pages and of `print_term`.
 -- Assumes nothing.
 use Prim.Native.Nat.{ℕ, _+_, _*_, _/_, _%_, _≤_, _<_}
-use mathlib.Core.Path.{_≡_, refl, ap, sym, subst, _∙_}
+use mathlib.Core.Path.{_≡_, refl, ap, sym, _∙_}
 use mathlib.Core.Bool.{Bool, true, false, cond}
-use mathlib.Core.List.{List, [], _∷_}
+use mathlib.Core.List.{List, [], _∷_, _++_}
 use native.Mathlib.Omega.{arith}
 use lib.Dec.{leb}
 use lib.ListN.{length, take, drop, getD}
 use lib.Seq.{sets, getD-take, ext-getD}
 use borrow.Author.Tests.{leb-true}
-use Rattle.calculus.specs.Terms.{Term, size, Closed}
+use Rattle.calculus.specs.Terms.{Term, Closed}
 use Rattle.code.specs.Code.{Bytes, encode}
 use Rattle.code.specs.Scope.{Fits}
 use Rattle.code.proofs.RoundTrip.{odd}
@@ -18,17 +18,23 @@ use Rattle.parts.proofs.Stores.{take-sets-end, drop-sets}
 use Rattle.examine.specs.Inspect.{Examined, refused, accepted, examined}
 use Rattle.examine.proofs.Laws.{examining-holds}
 use Rattle.calls.specs.Answers.{Written, answer, handed}
-use Rattle.calls.proofs.Writing.{accepts}
-use Rattle.printing.specs.Page.{lineFeed, cellsInLine, lineLength, longestPage, cells, lines, page, pageLength, printAnswerOf, printAnswer}
-use Rattle.printing.specs.Claims.{InLines, Pages, Printed, Refuses, term-refused, too-short, NotPrinted, Promises}
+use Rattle.calls.proofs.Writing.{accepts, encodes, whole-size}
+use Rattle.calls.proofs.Promised.{refusal-number}
+use Rattle.printing.specs.declared.Cell.{Cell}
+use Rattle.printing.specs.Page.{cellsInLine, lineLength, longestPage, cells, columns, page, pageLength, printAnswerOf, printAnswer}
+use Rattle.printing.specs.Claims.{InLines, Pages, Printed, term-refused, too-short, NotPrinted, Promises}
 use Rattle.printing.proofs.Cells.{shown-cells, cells-alike}
-use Rattle.printing.proofs.Lines.{page-feeds, lines-alike}
-use Rattle.printing.proofs.Writing.{encodes, whole-size, length-page}
+use Rattle.printing.proofs.Lines.{page-feeds, page-cell, lines-alike}
+use Rattle.printing.proofs.Writing.{length-page}
 
 -- ---- The page of a term.
 pub in-lines : (t : Term) → InLines (page t)
 unfolding page
 in-lines t = record { lines-are = rw (length-page t) (omega arith); line-feeds = page-feeds (shown-cells t) }
+
+cell-at : (t : Term) (xs : List Cell) (c : Cell) (ys : List Cell) → cells t ≡ xs ++ c ∷ ys → take 4 (drop (lineLength * (length xs / cellsInLine) + 4 * (length xs % cellsInLine)) (page t)) ≡ columns c []
+unfolding page
+cell-at t xs c ys e = rw e (page-cell xs c ys)
 
 pub longest : {t : Term} → Fits 0 t → length (page t) ≤ longestPage
 longest {t} f = rw (length-page t) (omega (arith, odd t, f .short))
@@ -38,7 +44,7 @@ unfolding page
 alike t u c f d g e = cells-alike (closed-coded c (f .shallow)) (closed-coded d (g .shallow)) (lines-alike cellsInLine (shown-cells t) (shown-cells u) e)
 
 pub paged : Pages
-paged = record { in-lines = in-lines; length-page = length-page; longest = longest; alike = alike }
+paged = record { in-lines = in-lines; cell-at = cell-at; length-page = length-page; longest = longest; alike = alike }
 
 -- ---- The ways to answer.
 data Ways (s out : List ℕ) : Written → Type 0 where
@@ -57,10 +63,6 @@ ways s out = go (examined s) refl
     go : (x : Examined) → examined s ≡ x → Ways s out (printAnswerOf out x)
     go (refused n p) h = at-refusal h
     go (accepted t) h = fits t h (leb (length (page t)) (length out)) refl
-
--- A refusal's number is not 0.
-refusal-number : (s : List ℕ) {n p : ℕ} → examined s ≡ refused n p → n ≡ 0 → ⊥
-refusal-number s h z = let b = examining-holds .numbers s h in omega (arith, b .0)
 
 fits : (s : List ℕ) {t : Term} → Bytes s → examined s ≡ accepted t → Fits 0 t
 fits s y h = let a = accepts y h in record { short = a .short; shallow = omega (arith, a .shallow) }
@@ -81,7 +83,7 @@ print-result s out {out′} {place} {n} y e = go (ways s out) e
           term = t;
           accepts = h;
           place-is = p;
-          length-is = l ∙ length-page t ∙ ap pageLength (sym (whole-size s y h));
+          length-is = l ∙ length-page t ∙ ap pageLength (sym (whole-size y (accepts y h)));
           longest = rw l (longest (fits s y h));
           room = rw l r;
           page-is = q;
@@ -110,7 +112,7 @@ within-buffer s out {out′} {number} {place} {n} e = go (ways s out) e
     go (at-page {t} h r) e = let q : n ≡ length (page t) = cc in omega (arith, r)
 
 length-written : {s out out′ : List ℕ} {place n : ℕ} → Bytes s → (d : Printed s out place n out′) → length (page (d .term)) ≡ n
-length-written {s} y d = length-page (d .term) ∙ ap pageLength (sym (whole-size s y (d .accepts))) ∙ sym (d .length-is)
+length-written {s} y d = length-page (d .term) ∙ ap pageLength (sym (whole-size y (accepts y (d .accepts)))) ∙ sym (d .length-is)
 
 print-alike : (s u out₁ out₂ : List ℕ) {out₁′ out₂′ : List ℕ} {place₁ place₂ n₁ n₂ : ℕ} → Bytes s → Bytes u
     → printAnswer s out₁ ≡ answer 0 place₁ n₁ out₁′ → printAnswer u out₂ ≡ answer 0 place₂ n₂ out₂′
@@ -124,7 +126,7 @@ print-alike s u out₁ out₂ {out₁′} {out₂′} {n₁ = n₁} {n₂} y z e
     ap (λ v. getD v i 0) (sym (a .page-is)) ∙ getD-take n₁ out₁′ i 0 (omega arith) ∙ h i (omega arith) ∙ sym (getD-take n₂ out₂′ i 0 (omega arith)) ∙ ap (λ v. getD v i 0) (b .page-is) in
     let p = ext-getD 0 (page (a .term)) (page (b .term)) (k ∙ q ∙ sym l) same in
     let t = alike (a .term) (b .term) (accepts y (a .accepts) .closed) (fits s y (a .accepts)) (accepts z (b .accepts) .closed) (fits u z (b .accepts)) p in
-    sym (encodes s y (a .accepts) .bytes) ∙ ap encode t ∙ encodes u z (b .accepts) .bytes
+    sym (encodes y (accepts y (a .accepts)) .bytes) ∙ ap encode t ∙ encodes z (accepts z (b .accepts)) .bytes
 
 pub promised : Promises
 promised = record { print-result = print-result; print-kept = print-kept; print-alike = print-alike }

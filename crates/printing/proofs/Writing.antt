@@ -1,23 +1,20 @@
 -- Cells put one after the other: what is stored, with what is still to come, is the whole page.
 -- Assumes nothing.
 use Prim.Native.Nat.{ℕ, zero, suc, _+_, _*_, _-_, _≤_, _<_}
-use mathlib.Core.Path.{_≡_, refl, ap, sym, subst, _∙_}
-use mathlib.Core.List.{List, [], _∷_, map}
+use mathlib.Core.Path.{_≡_, refl, ap, sym, _∙_}
+use mathlib.Core.List.{List, [], _∷_}
 use native.Mathlib.Omega.{arith}
-use lib.ListN.{length, getD, drop, set, length-set, length-map, drop-of-length-le}
+use lib.ListN.{length, getD, drop, set, length-set, drop-of-length-le}
 use lib.Seq.{sets, drop-cons}
 use borrow.Author.Tests.{le-leb, lt-leb}
 use Rattle.calculus.specs.Terms.{Term, size}
 use Rattle.code.specs.Limits.{longestTerm}
-use Rattle.code.specs.Code.{Bytes, encode}
-use Rattle.code.specs.Claims.{Encodes}
-use Rattle.code.proofs.RoundTrip.{encode-decode, length-encode, odd}
-use Rattle.examine.specs.Inspect.{refused, accepted, examined, termAnswer}
-use Rattle.examine.specs.declared.TermAnswer.{TermAnswer}
+use Rattle.code.specs.Code.{Bytes}
+use Rattle.code.proofs.RoundTrip.{odd}
+use Rattle.examine.specs.Inspect.{refused, examined}
 use Rattle.examine.specs.Claims.{WellFormed}
-use Rattle.examine.proofs.Laws.{number-zero}
-use Rattle.calls.specs.Answers.{Written, answer, handed, AcceptedTerm}
-use Rattle.calls.proofs.Writing.{accepts}
+use Rattle.calls.specs.Answers.{answer, handed, AcceptedTerm}
+use Rattle.calls.proofs.Writing.{accepts, encodes, whole-size}
 use Rattle.printing.specs.declared.Cell.{Cell}
 use Rattle.printing.specs.Page.{blank, lineFeed, cellsInLine, letterCell, cells, columns, filled, lines, page, pageLength, printAnswerOf, printAnswer}
 use Rattle.printing.specs.Contracts.{cellOf, cellsOf, Onward, PutsCell}
@@ -127,16 +124,9 @@ pub print-refused : (s out : List ℕ) {n p : ℕ} → examined s ≡ refused n 
 unfolding printAnswer printAnswerOf
 print-refused s out h = sym (ap (printAnswerOf out) h)
 
-module _ (s : List ℕ) (y : Bytes s) {t : Term} (a : examined s ≡ accepted t) where
-  pub encodes : Encodes s t
-  encodes = encode-decode s t y (accepts y a .decodes)
-
-  pub page-of-bytes : lines cellsInLine (cellsOf s) ≡ page t
-  unfolding page
-  page-of-bytes = ap (lines cellsInLine) (ap cellsOf (sym (encodes .bytes)) ∙ cells-of-bytes (encodes .coded))
-
-  pub whole-size : length s ≡ size t
-  whole-size = ap length (sym (encodes .bytes)) ∙ length-encode t
+pub page-of-bytes : {s : List ℕ} {t : Term} → Bytes s → WellFormed s t → lines cellsInLine (cellsOf s) ≡ page t
+unfolding page
+page-of-bytes y a = ap (lines cellsInLine) (ap cellsOf (sym (encodes y a .bytes)) ∙ cells-of-bytes (encodes y a .coded))
 
 pub length-page : (t : Term) → length (page t) ≡ pageLength (size t)
 unfolding page
@@ -144,14 +134,14 @@ length-page t = length-page-lines (cells t) (omega (arith, length-cells t, odd t
 
 module _ (s : List ℕ) (y : Bytes s) (a : AcceptedTerm s) where
   pub short-term : length s ≤ longestTerm
-  short-term = omega (arith, whole-size s y (a .accepts), accepts y (a .accepts) .short)
+  short-term = omega (arith, whole-size y (accepts y (a .accepts)), accepts y (a .accepts) .short)
 
   module _ {n : ℕ} (e : n ≡ pageLength (length s)) where
     length-is : length (page (a .term)) ≡ n
-    length-is = length-page (a .term) ∙ ap pageLength (sym (whole-size s y (a .accepts))) ∙ sym e
+    length-is = length-page (a .term) ∙ ap pageLength (sym (whole-size y (accepts y (a .accepts)))) ∙ sym e
 
     pub page-fits : {m : ℕ} → n ≤ m → length (lines cellsInLine (cellsOf s)) ≤ m
-    page-fits h = rw (page-of-bytes s y (a .accepts), length-is) h
+    page-fits h = rw (page-of-bytes y (accepts y (a .accepts)), length-is) h
 
     handing : (out : List ℕ) → handed out (page (a .term)) ≡ printAnswer s out
     unfolding printAnswer printAnswerOf
@@ -163,4 +153,4 @@ module _ (s : List ℕ) (y : Bytes s) (a : AcceptedTerm s) where
 
     pub print-written : (out : List ℕ) {out′ : List ℕ} → n ≤ length out → out′ ≡ sets out 0 (lines cellsInLine (cellsOf s)) → answer 0 0 n out′ ≡ printAnswer s out
     unfolding handed
-    print-written out h q = rw (q, page-of-bytes s y (a .accepts)) (rw (length-is, le-leb n (length out) h) at (handing out))
+    print-written out h q = rw (q, page-of-bytes y (accepts y (a .accepts))) (rw (length-is, le-leb n (length out) h) at (handing out))

@@ -3,17 +3,17 @@
 use Prim.Native.Nat.{ℕ, _+_, _*_, _/_, _%_, _≤_, _<_}
 use mathlib.Core.Path.{_≡_}
 use mathlib.Core.Logic.{_↔_}
-use mathlib.Core.List.{List, []}
+use mathlib.Core.List.{List, [], _∷_, _++_}
 use lib.ListN.{length, take, drop, getD}
 use Rattle.calculus.specs.Terms.{Term, size, Closed}
-use Rattle.code.specs.Limits.{longestTerm, mostAbstractors}
 use Rattle.code.specs.Refusals.{notOneTerm, tooManyInScope, bufferTooShort}
 use Rattle.code.specs.Refusals as refusals
 use Rattle.code.specs.Code.{Bytes}
 use Rattle.code.specs.Scope.{Fits}
 use Rattle.examine.specs.Inspect.{accepted, examined}
 use Rattle.calls.specs.Answers.{answer}
-use Rattle.printing.specs.Page.{lineFeed, cellsInLine, lineLength, longestPage, page, pageLength, printAnswer}
+use Rattle.printing.specs.declared.Cell.{Cell}
+use Rattle.printing.specs.Page.{lineFeed, cellsInLine, lineLength, longestPage, cells, columns, page, pageLength, printAnswer}
 
 -- p consists of lines of 72 columns and a line feed: its line feeds are the last bytes of the lines, and no others.
 pub record InLines (p : List ℕ) : Type 0 where
@@ -23,6 +23,8 @@ pub record InLines (p : List ℕ) : Type 0 where
 -- 1. The page of a term.
 pub record Pages : Type 0 where
   pub in-lines : (t : Term) → InLines (page t)
+  -- the cell after n others stands in line n / 18, from column 4 (n % 18) on, both from 0
+  pub cell-at : (t : Term) (xs : List Cell) (c : Cell) (ys : List Cell) → cells t ≡ xs ++ c ∷ ys → take 4 (drop (lineLength * (length xs / cellsInLine) + 4 * (length xs % cellsInLine)) (page t)) ≡ columns c []
   pub length-page : (t : Term) → length (page t) ≡ pageLength (size t)
   pub longest : {t : Term} → Fits 0 t → length (page t) ≤ longestPage
   -- two closed terms print alike only if they are equal

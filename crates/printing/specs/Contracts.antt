@@ -7,7 +7,7 @@ use lib.ListN.{length}
 use lib.Seq.{sets}
 use Rattle.code.specs.Code.{Symbol, symbol, symbol-tau, symbol-var, symbol-app, symbol-abs}
 use Rattle.printing.specs.declared.Cell.{Cell}
-use Rattle.printing.specs.Page.{cellsInLine, letterTau, letterApplicator, letterAbstractor, letterCell, indexCell, filled, lines}
+use Rattle.printing.specs.Page.{cellsInLine, letterTau, letterApplicator, letterAbstractor, letterCell, indexCell, lines}
 
 -- The cell of a byte.
 unfoldable pub cellOfSymbol : Symbol → ℕ → Cell

@@ -1,5 +1,5 @@
 -- Document 01, 'Examples to carry in the proofs': E1 with its degree and its type, E2 to E9, and example 11; some more of the type
--- and the step, with the buffer that is left: aa is a byte that was there before; and the readings of request (a).
+-- and the step, with the buffer that is left: aa is a byte that was there before; and the readings of requests (a) and (b).
 -- Assumes nothing.
 use Prim.Native.Nat.{ℕ, zero, suc}
 use mathlib.Core.Path.{_≡_}
@@ -9,11 +9,12 @@ use Rattle.examine.specs.declared.TermAnswer.{TermAnswer}
 use Rattle.calculus.specs.Steps.{base}
 use Rattle.files.specs.Check.{CheckAnswer, checkFileBy, checkFile}
 use Rattle.calls.specs.Answers.{Written, nothing, answer, typeAnswer, stepAnswer}
+use Rattle.printing.specs.Page.{printAnswer}
 
 -- A call with what it is given: a term; a file; a file, where kind 3 is unknown as before request (a); a term and a buffer; a term, a step's kind and place, and a buffer.
 pub data Call : Type 0 where
   examine-term check-file check-former : List ℕ → Call
-  write-type : List ℕ → List ℕ → Call
+  write-type print-term : List ℕ → List ℕ → Call
   apply-step : List ℕ → (kind place : ℕ) → List ℕ → Call
 
 -- Its answer: number, place and degree; number, place, comparisons and degree; 'none', or number, place, length, and the buffer.
@@ -27,6 +28,7 @@ answerTo (examine-term s) = of-term (termAnswer s)
 answerTo (check-file s) = of-file (checkFile s)
 answerTo (check-former s) = of-file (checkFileBy base s)
 answerTo (write-type s out) = of-buffer (typeAnswer s out)
+answerTo (print-term s out) = of-buffer (printAnswer s out)
 answerTo (apply-step s kind place out) = of-buffer (stepAnswer s (record { kind = kind; place = place }) out)
 
 pub record Example : Type 0 where
@@ -44,6 +46,9 @@ formerGives s n p c d = record { call = check-former s; gives = of-file (record 
 
 abbrev pub typeGives : (s out : List ℕ) → Written → Example
 typeGives s out w = record { call = write-type s out; gives = of-buffer w }
+
+abbrev pub printGives : (s out : List ℕ) → Written → Example
+printGives s out w = record { call = print-term s out; gives = of-buffer w }
 
 abbrev pub stepGives : List ℕ → (kind place : ℕ) → List ℕ → Written → Example
 stepGives s k p out w = record { call = apply-step s k p out; gives = of-buffer w }
@@ -150,6 +155,16 @@ table =
     -- in a file: accepted, where it was 10 before
     ∷ checkGives (file 13 inner (group ++ right-step 0x03)) 0 0 2 3
     ∷ formerGives (file 13 inner (group ++ right-step 0x03)) 10 4 1 3
+    -- request (b), B1: three blanks, t, 68 blanks and a line feed, the rest of the buffer as it was; a byte too few
+    ∷ printGives (0x00 ∷ []) (times 100 (0xaa ∷ [])) (answer 0 0 73 (times 3 (0x20 ∷ []) ++ 0x74 ∷ times 68 (0x20 ∷ []) ++ 0x0a ∷ times 27 (0xaa ∷ [])))
+    ∷ printGives (0x00 ∷ []) (times 73 (0xaa ∷ [])) (answer 0 0 73 (times 3 (0x20 ∷ []) ++ 0x74 ∷ times 68 (0x20 ∷ []) ++ 0x0a ∷ []))
+    ∷ printGives (0x00 ∷ []) (times 72 (0xaa ∷ [])) (answer 14 0 0 (times 72 (0xaa ∷ [])))
+    -- B2: the term's own refusals come before 14
+    ∷ printGives (0x01 ∷ []) [] (answer 5 0 0 [])
+    ∷ printGives (0xff ∷ 0x00 ∷ []) (0xaa ∷ []) (answer 3 2 0 (0xaa ∷ []))
+    ∷ printGives (abstractors 254 (0x00 ∷ [])) [] (answer 6 506 0 [])
+    -- and there is no 11: 253 abstractors and an index take 29 lines, 2,117 bytes
+    ∷ printGives (abstractors 253 (0xfd ∷ [])) [] (answer 14 0 0 [])
     ∷ []
 
 -- One fact: each call gives its answer.

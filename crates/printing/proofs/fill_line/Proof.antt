@@ -1,7 +1,6 @@
 -- `printing::fill_line` meets its contract.
 -- Assumes nothing.
 use Prim.Native.Nat.{_-_}
-use mathlib.Core.Path.{_∙_}
 use native.Mathlib.Omega.{arith}
 use Rattle.printing.proofs.Writing.{onward-here, Filling, room-for-blanks, fill-next, fill-end}
 use borrow.Author.Needs.{needs}

@@ -1,6 +1,5 @@
 -- `printing::print_term` meets its contract.
 -- Assumes nothing.
-use native.Mathlib.Omega.{arith}
 use Rattle.examine.proofs.Laws.{refused-answer}
 use Rattle.calls.proofs.Writing.{accepted-term}
 use Rattle.printing.proofs.Writing.{print-refused, short-term, page-fits, print-short, print-written}
