@@ -1,17 +1,18 @@
--- The cells of a term: they are those of its bytes, and tell the bytes again.
+-- The cells of a term: they are those of its bytes, and tell the term.
 -- Assumes nothing.
 use Prim.Native.Nat.{ℕ, _+_, _*_, _-_, _/_, _%_, _≤_, _<_}
 use mathlib.Core.Path.{_≡_, refl, ap, ap₂, sym, _∙_}
 use mathlib.Core.Bool.{Bool, true, false, cond}
-use mathlib.Core.List.{List, [], _∷_, _++_, map, map-append}
+use mathlib.Core.List.{List, [], _∷_, _++_, map-append, append-assoc}
 use native.Mathlib.Omega.{arith}
 use native.Mathlib.Nat.{mod-add-div', mod-eq-of-lt}
-use lib.Dec.{eqb, ltb}
+use lib.Dec.{ltb}
 use lib.ListN.{length, length-append}
 use borrow.Author.Tests.{ltb-true, ltb-false, ne-eqb}
-use Rattle.calculus.specs.Terms.{Term, tau, var, app, abs, size}
+use Rattle.calculus.specs.Terms.{Term, tau, var, app, abs, size, Closed, closed-tau, closed-var, closed-app, closed-abs}
 use Rattle.code.specs.Code.{symbol, encode, Coded, coded-tau, coded-var, coded-app, coded-abs}
-use Rattle.code.proofs.RoundTrip.{symbol-index, encode-injective}
+use Rattle.code.specs.Scope.{scope}
+use Rattle.code.proofs.RoundTrip.{symbol-index}
 use Rattle.printing.specs.declared.Cell.{Cell}
 use Rattle.printing.specs.Page.{blank, digitZero, letterTau, letterApplicator, letterAbstractor, letterCell, digit, indexCell, cells}
 use Rattle.printing.specs.Contracts.{cellOfSymbol, cellOf, cellsOf}
@@ -100,12 +101,9 @@ shown-cells (var k) = more (shown-index k) no-cells
 shown-cells (app K B) = more (shown-letter letterApplicator (omega arith)) (shown-append (shown-cells K) (shown-cells B))
 shown-cells (abs U B) = more (shown-letter letterAbstractor (omega arith)) (shown-append (shown-cells U) (shown-cells B))
 
--- ---- Reading a cell: the number that its digits make, and the byte.
+-- ---- The number that the digits of an index make.
 number : Cell → ℕ
 number c = (c .first - digitZero) * 1000 + (c .second - digitZero) * 100 + (c .third - digitZero) * 10 + (c .fourth - digitZero)
-
-byteOf : Cell → ℕ
-byteOf c = cond (eqb (c .fourth) letterTau) 0x00 (cond (eqb (c .fourth) letterApplicator) 0xfe (cond (eqb (c .fourth) letterAbstractor) 0xff (number c)))
 
 digit-value : {k worth x : ℕ} → Digit k worth x → (k < worth → k / worth % 10 ≡ 0) → x - digitZero ≡ k / worth % 10
 digit-value (not-shown h) z = sym (z h)
@@ -127,20 +125,60 @@ decimal k h =
     the-last : (k : ℕ) → k < 10000 → k / 1000 < 10
     the-last k h = omega arith
 
-byte-index : (k : ℕ) → k < 10000 → byteOf (indexCell k) ≡ k
-unfolding byteOf number indexCell
-byte-index k h =
+number-index : (k : ℕ) → k < 10000 → number (indexCell k) ≡ k
+unfolding number indexCell
+number-index k h =
     let a : digit k 1000 - digitZero ≡ k / 1000 % 10 = digit-value (digit-is k 1000) (λ l. omega arith) in
     let b : digit k 100 - digitZero ≡ k / 100 % 10 = digit-value (digit-is k 100) (λ l. omega arith) in
     let e : digit k 10 - digitZero ≡ k / 10 % 10 = digit-value (digit-is k 10) (λ l. omega arith) in
-    rw (ne-eqb (digitZero + k % 10) letterTau (λ z. omega arith), ne-eqb (digitZero + k % 10) letterApplicator (λ z. omega arith), ne-eqb (digitZero + k % 10) letterAbstractor (λ z. omega arith), a, b, e) (omega (arith, decimal k h))
+    rw (a, b, e) (omega (arith, decimal k h))
 
-bytes-of-cells : {t : Term} → Coded t → map byteOf (cells t) ≡ encode t
-unfolding cells encode letterCell byteOf
-bytes-of-cells coded-tau = refl
-bytes-of-cells (coded-var {k} p q) = ap (_∷ []) (byte-index k (omega arith))
-bytes-of-cells (coded-app {K} {B} f g) = ap (0xfe ∷_) (map-append byteOf (cells K) (cells B) ∙ ap₂ _++_ (bytes-of-cells f) (bytes-of-cells g))
-bytes-of-cells (coded-abs {U} {B} f g) = ap (0xff ∷_) (map-append byteOf (cells U) (cells B) ∙ ap₂ _++_ (bytes-of-cells f) (bytes-of-cells g))
+same-index : (k l : ℕ) → k < 10000 → l < 10000 → indexCell k ≡ indexCell l → k ≡ l
+same-index k l g h e = sym (number-index k g) ∙ ap number e ∙ number-index l h
 
-pub cells-alike : {t u : Term} → Coded t → Coded u → cells t ≡ cells u → t ≡ u
-cells-alike f g e = encode-injective f g (sym (bytes-of-cells f) ∙ ap (map byteOf) e ∙ bytes-of-cells g)
+-- ---- The cells tell the term: no term's cells begin another's.
+last-column : {c d : Cell} {x y : List Cell} → c ∷ x ≡ d ∷ y → c .fourth ≡ d .fourth
+last-column {c} {d} e = let h : c ≡ d = cc in ap (λ (z : Cell). z .fourth) h
+
+other-letter : {A : Type 0} (x y : ℕ) {cs ds : List Cell} → (x ≡ y → ⊥) → letterCell x ∷ cs ≡ letterCell y ∷ ds → A
+unfolding letterCell
+other-letter x y z e = absurd (z (last-column e))
+
+no-letter : {A : Type 0} (x k : ℕ) {cs ds : List Cell} → (x ≡ digitZero + k % 10 → ⊥) → letterCell x ∷ cs ≡ indexCell k ∷ ds → A
+unfolding letterCell indexCell
+no-letter x k z e = absurd (z (last-column e))
+
+parts-alike : (x : ℕ) (F : Term → Term → Term) (K B L C : Term) (xs ys : List Cell)
+    → ((xs ys : List Cell) → cells K ++ xs ≡ cells L ++ ys → (K ≡ L) × (xs ≡ ys))
+    → ((xs ys : List Cell) → cells B ++ xs ≡ cells C ++ ys → (B ≡ C) × (xs ≡ ys))
+    → letterCell x ∷ ((cells K ++ cells B) ++ xs) ≡ letterCell x ∷ ((cells L ++ cells C) ++ ys) → (F K B ≡ F L C) × (xs ≡ ys)
+parts-alike x F K B L C xs ys f g e =
+    let h : (cells K ++ cells B) ++ xs ≡ (cells L ++ cells C) ++ ys = cc in
+    let p = f (cells B ++ xs) (cells C ++ ys) (sym (append-assoc (cells K) (cells B) xs) ∙ h ∙ append-assoc (cells L) (cells C) ys) in
+    let q = g xs ys (p .1) in
+    (ap₂ F (p .0) (q .0), q .1)
+
+cells-prefix : {n m : ℕ} {t u : Term} → Closed n t → n + scope t < 10000 → Closed m u → m + scope u < 10000 → (xs ys : List Cell) → cells t ++ xs ≡ cells u ++ ys → (t ≡ u) × (xs ≡ ys)
+unfolding cells scope
+cells-prefix closed-tau g closed-tau h xs ys e = (refl, cc)
+cells-prefix closed-tau g (closed-var {k} p q) h xs ys e = no-letter letterTau k (λ z. omega arith) e
+cells-prefix closed-tau g (closed-app c d) h xs ys e = other-letter letterTau letterApplicator (λ z. omega arith) e
+cells-prefix closed-tau g (closed-abs c d) h xs ys e = other-letter letterTau letterAbstractor (λ z. omega arith) e
+cells-prefix (closed-var {k} p q) g closed-tau h xs ys e = no-letter letterTau k (λ z. omega arith) (sym e)
+cells-prefix (closed-var {k} p q) g (closed-var {k = l} r s) h xs ys e =
+    let z : indexCell k ≡ indexCell l = cc in
+    let w = same-index k l (omega arith) (omega arith) z in
+    (ap var w, cc)
+cells-prefix (closed-var {k} p q) g (closed-app c d) h xs ys e = no-letter letterApplicator k (λ z. omega arith) (sym e)
+cells-prefix (closed-var {k} p q) g (closed-abs c d) h xs ys e = no-letter letterAbstractor k (λ z. omega arith) (sym e)
+cells-prefix (closed-app a b) g closed-tau h xs ys e = other-letter letterApplicator letterTau (λ z. omega arith) e
+cells-prefix (closed-app a b) g (closed-var {k} p q) h xs ys e = no-letter letterApplicator k (λ z. omega arith) e
+cells-prefix (closed-app {K} {B} a b) g (closed-app {K = L} {B = C} c d) h xs ys e = parts-alike letterApplicator app K B L C xs ys (cells-prefix a (omega arith) c (omega arith)) (cells-prefix b (omega arith) d (omega arith)) e
+cells-prefix (closed-app a b) g (closed-abs c d) h xs ys e = other-letter letterApplicator letterAbstractor (λ z. omega arith) e
+cells-prefix (closed-abs a b) g closed-tau h xs ys e = other-letter letterAbstractor letterTau (λ z. omega arith) e
+cells-prefix (closed-abs a b) g (closed-var {k} p q) h xs ys e = no-letter letterAbstractor k (λ z. omega arith) e
+cells-prefix (closed-abs a b) g (closed-app c d) h xs ys e = other-letter letterAbstractor letterApplicator (λ z. omega arith) e
+cells-prefix (closed-abs {U} {B} a b) g (closed-abs {U = L} {B = C} c d) h xs ys e = parts-alike letterAbstractor abs U B L C xs ys (cells-prefix a (omega arith) c (omega arith)) (cells-prefix b (omega arith) d (omega arith)) e
+
+pub cells-alike : (t u : Term) → Closed 0 t → scope t < 10000 → Closed 0 u → scope u < 10000 → cells t ≡ cells u → t ≡ u
+cells-alike t u c g d h e = cells-prefix c (omega arith) d (omega arith) [] [] (ap (_++ []) e) .0

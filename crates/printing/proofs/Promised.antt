@@ -9,19 +9,19 @@ use lib.Dec.{leb}
 use lib.ListN.{length, take, drop, getD}
 use lib.Seq.{sets, getD-take, ext-getD}
 use borrow.Author.Tests.{leb-true}
-use Rattle.calculus.specs.Terms.{Term, Closed}
+use Rattle.calculus.specs.Terms.{Term, size, Closed}
 use Rattle.code.specs.Code.{Bytes, encode}
-use Rattle.code.specs.Scope.{Fits}
+use Rattle.code.specs.Limits.{longestTerm}
+use Rattle.code.specs.Scope.{scope}
 use Rattle.code.proofs.RoundTrip.{odd}
-use Rattle.code.proofs.Scope.{closed-coded}
 use Rattle.parts.proofs.Stores.{take-sets-end, drop-sets}
 use Rattle.examine.specs.Inspect.{Examined, refused, accepted, examined}
 use Rattle.examine.proofs.Laws.{examining-holds}
 use Rattle.calls.specs.Answers.{Written, answer, handed}
-use Rattle.calls.proofs.Writing.{accepts, encodes, whole-size}
+use Rattle.calls.proofs.Writing.{accepts, encodes}
 use Rattle.calls.proofs.Promised.{refusal-number}
 use Rattle.printing.specs.declared.Cell.{Cell}
-use Rattle.printing.specs.Page.{cellsInLine, lineLength, longestPage, cells, columns, page, pageLength, printAnswerOf, printAnswer}
+use Rattle.printing.specs.Page.{cellsInLine, lineLength, longestPage, cells, columns, page, printAnswerOf, printAnswer}
 use Rattle.printing.specs.Claims.{InLines, Pages, Printed, term-refused, too-short, NotPrinted, Promises}
 use Rattle.printing.proofs.Cells.{shown-cells, cells-alike}
 use Rattle.printing.proofs.Lines.{page-feeds, page-cell, lines-alike}
@@ -36,12 +36,12 @@ cell-at : (t : Term) (xs : List Cell) (c : Cell) (ys : List Cell) → cells t �
 unfolding page
 cell-at t xs c ys e = rw e (page-cell xs c ys)
 
-pub longest : {t : Term} → Fits 0 t → length (page t) ≤ longestPage
-longest {t} f = rw (length-page t) (omega (arith, odd t, f .short))
+pub longest : (t : Term) → size t ≤ longestTerm → length (page t) ≤ longestPage
+longest t h = rw (length-page t) (omega (arith, odd t))
 
-pub alike : (t u : Term) → Closed 0 t → Fits 0 t → Closed 0 u → Fits 0 u → page t ≡ page u → t ≡ u
+pub alike : (t u : Term) → Closed 0 t → scope t < 10000 → Closed 0 u → scope u < 10000 → page t ≡ page u → t ≡ u
 unfolding page
-alike t u c f d g e = cells-alike (closed-coded c (f .shallow)) (closed-coded d (g .shallow)) (lines-alike cellsInLine (shown-cells t) (shown-cells u) e)
+alike t u c g d h e = cells-alike t u c g d h (lines-alike cellsInLine (shown-cells t) (shown-cells u) e)
 
 pub paged : Pages
 paged = record { in-lines = in-lines; cell-at = cell-at; length-page = length-page; longest = longest; alike = alike }
@@ -64,9 +64,6 @@ ways s out = go (examined s) refl
     go (refused n p) h = at-refusal h
     go (accepted t) h = fits t h (leb (length (page t)) (length out)) refl
 
-fits : (s : List ℕ) {t : Term} → Bytes s → examined s ≡ accepted t → Fits 0 t
-fits s y h = let a = accepts y h in record { short = a .short; shallow = omega (arith, a .shallow) }
-
 print-result : (s out : List ℕ) {out′ : List ℕ} {place n : ℕ} → Bytes s → printAnswer s out ≡ answer 0 place n out′ → Printed s out place n out′
 print-result s out {out′} {place} {n} y e = go (ways s out) e
   where
@@ -83,8 +80,8 @@ print-result s out {out′} {place} {n} y e = go (ways s out) e
           term = t;
           accepts = h;
           place-is = p;
-          length-is = l ∙ length-page t ∙ ap pageLength (sym (whole-size y (accepts y h)));
-          longest = rw l (longest (fits s y h));
+          length-is = l ∙ length-page t;
+          longest = rw l (longest t (accepts y h .short));
           room = rw l r;
           page-is = q;
           past = rw (l, b) (drop-sets (page t) out 0 (length (page t)) (omega arith));
@@ -111,22 +108,21 @@ within-buffer s out {out′} {number} {place} {n} e = go (ways s out) e
     go at-short e = let q : n ≡ 0 = cc in omega arith
     go (at-page {t} h r) e = let q : n ≡ length (page t) = cc in omega (arith, r)
 
-length-written : {s out out′ : List ℕ} {place n : ℕ} → Bytes s → (d : Printed s out place n out′) → length (page (d .term)) ≡ n
-length-written {s} y d = length-page (d .term) ∙ ap pageLength (sym (whole-size y (accepts y (d .accepts)))) ∙ sym (d .length-is)
-
 print-alike : (s u out₁ out₂ : List ℕ) {out₁′ out₂′ : List ℕ} {place₁ place₂ n₁ n₂ : ℕ} → Bytes s → Bytes u
     → printAnswer s out₁ ≡ answer 0 place₁ n₁ out₁′ → printAnswer u out₂ ≡ answer 0 place₂ n₂ out₂′
     → n₁ ≡ n₂ → ((i : ℕ) → i < n₁ → getD out₁′ i 0 ≡ getD out₂′ i 0) → s ≡ u
 print-alike s u out₁ out₂ {out₁′} {out₂′} {n₁ = n₁} {n₂} y z e f q h =
     let a = print-result s out₁ y e in
     let b = print-result u out₂ z f in
-    let k : length (page (a .term)) ≡ n₁ = length-written y a in
-    let l : length (page (b .term)) ≡ n₂ = length-written z b in
+    let v = accepts y (a .accepts) in
+    let w = accepts z (b .accepts) in
+    let k : length (page (a .term)) ≡ n₁ = length-page (a .term) ∙ sym (a .length-is) in
+    let l : length (page (b .term)) ≡ n₂ = length-page (b .term) ∙ sym (b .length-is) in
     let same : (i : ℕ) → i < length (page (a .term)) → getD (page (a .term)) i 0 ≡ getD (page (b .term)) i 0 = λ i m.
     ap (λ v. getD v i 0) (sym (a .page-is)) ∙ getD-take n₁ out₁′ i 0 (omega arith) ∙ h i (omega arith) ∙ sym (getD-take n₂ out₂′ i 0 (omega arith)) ∙ ap (λ v. getD v i 0) (b .page-is) in
     let p = ext-getD 0 (page (a .term)) (page (b .term)) (k ∙ q ∙ sym l) same in
-    let t = alike (a .term) (b .term) (accepts y (a .accepts) .closed) (fits s y (a .accepts)) (accepts z (b .accepts) .closed) (fits u z (b .accepts)) p in
-    sym (encodes y (accepts y (a .accepts)) .bytes) ∙ ap encode t ∙ encodes z (accepts z (b .accepts)) .bytes
+    let t = alike (a .term) (b .term) (v .closed) (omega (arith, v .shallow)) (w .closed) (omega (arith, w .shallow)) p in
+    sym (encodes y v .bytes) ∙ ap encode t ∙ encodes z w .bytes
 
 pub promised : Promises
 promised = record { print-result = print-result; print-kept = print-kept; print-alike = print-alike }

@@ -6,10 +6,11 @@ use mathlib.Core.Logic.{_↔_}
 use mathlib.Core.List.{List, [], _∷_, _++_}
 use lib.ListN.{length, take, drop, getD}
 use Rattle.calculus.specs.Terms.{Term, size, Closed}
+use Rattle.code.specs.Limits.{longestTerm}
 use Rattle.code.specs.Refusals.{notOneTerm, tooManyInScope, bufferTooShort}
 use Rattle.code.specs.Refusals as refusals
 use Rattle.code.specs.Code.{Bytes}
-use Rattle.code.specs.Scope.{Fits}
+use Rattle.code.specs.Scope.{scope}
 use Rattle.examine.specs.Inspect.{accepted, examined}
 use Rattle.calls.specs.Answers.{answer}
 use Rattle.printing.specs.declared.Cell.{Cell}
@@ -26,16 +27,16 @@ pub record Pages : Type 0 where
   -- the cell after n others stands in line n / 18, from column 4 (n % 18) on, both from 0
   pub cell-at : (t : Term) (xs : List Cell) (c : Cell) (ys : List Cell) → cells t ≡ xs ++ c ∷ ys → take 4 (drop (lineLength * (length xs / cellsInLine) + 4 * (length xs % cellsInLine)) (page t)) ≡ columns c []
   pub length-page : (t : Term) → length (page t) ≡ pageLength (size t)
-  pub longest : {t : Term} → Fits 0 t → length (page t) ≤ longestPage
-  -- two closed terms print alike only if they are equal
-  pub alike : (t u : Term) → Closed 0 t → Fits 0 t → Closed 0 u → Fits 0 u → page t ≡ page u → t ≡ u
+  pub longest : (t : Term) → size t ≤ longestTerm → length (page t) ≤ longestPage
+  -- two closed terms print alike only if they are equal: as long as no index outgrows its four columns
+  pub alike : (t u : Term) → Closed 0 t → scope t < 10000 → Closed 0 u → scope u < 10000 → page t ≡ page u → t ≡ u
 
 -- The term s was printed: a page of n bytes stands at the start of the buffer, and nothing else was written.
 pub record Printed (s out : List ℕ) (place n : ℕ) (out′ : List ℕ) : Type 0 where
   pub term : Term
   pub accepts : examined s ≡ accepted term
   pub place-is : place ≡ 0
-  pub length-is : n ≡ pageLength (length s)
+  pub length-is : n ≡ pageLength (size term)
   pub longest : n ≤ longestPage
   pub room : n ≤ length out
   pub page-is : take n out′ ≡ page term
