@@ -1,4 +1,4 @@
-/* The six calls of the proved checker, for C99 and C++. Link with libexports.a (README, 'From C and Rust').
+/* The calls of the proved checker, for C99 and C++. Link with libexports.a (README, 'From C and Rust').
  *
  * A slice is a pointer and a length: s and n are the input, out and m the buffer that the caller lends. Each pointer is a
  * valid pointer, also for length 0. out overlaps neither s nor answer, and answer does not overlap s.

@@ -1,4 +1,4 @@
-/* All six calls on small inputs, one line for each, and a page. The Rust example prints the same lines. */
+/* All calls on small inputs, one line for each, and a page. The Rust example prints the same lines. */
 #include <inttypes.h>
 #include <stdio.h>
 #include <string.h>

@@ -1,4 +1,4 @@
-//! The six calls of the proved checker, for Rust. No call relies on an earlier one, and every call returns.
+//! The calls of the proved checker, for Rust. No call relies on an earlier one, and every call returns.
 //!
 //! `number` is 0 if accepted, else the number of the refusal (module `number`; docs/REFUSALS.md), and `place` says where. At a
 //! refusal a lent buffer keeps every byte; after a result it keeps every byte past it.

@@ -1,4 +1,4 @@
-//! All six calls on small inputs, one line for each, and a page. The C example prints the same lines.
+//! All calls on small inputs, one line for each, and a page. The C example prints the same lines.
 
 use bijterne::{apply_step, check, examine_file, examine_term, print_term, write_type};
 use bijterne::{CheckAnswer, Checker, Written, LONGEST_PAGE};
