@@ -24,7 +24,8 @@ cellOf b = cellOfSymbol (symbol b) b
 abbrev pub cellsOf : List ℕ → List Cell
 cellsOf s = map cellOf s
 
--- What is left to write is `todo` at a place of `out`; all in all it is the same as `todo′` at another place of `out′`.
+-- `todo` was to be written to `out` from a place on. Some of it has been: what is left, `todo′`, written to `out′` from its own place on,
+-- gives the same bytes.
 pub record Onward (out : List ℕ) (at : ℕ) (todo : List ℕ) (out′ : List ℕ) (at′ : ℕ) (todo′ : List ℕ) : Type 0 where
   pub same-length : length out′ ≡ length out
   pub same-end : at′ + length todo′ ≡ at + length todo

@@ -3,18 +3,14 @@
 use Prim.Native.Nat.{ℕ, zero, suc}
 use mathlib.Core.Path.{_≡_}
 use mathlib.Core.List.{List, [], _∷_, _++_}
+use lib.ListN.{drop, replicate}
 use Rattle.calculus.specs.Terms.{Term, tau, var, app, abs}
 use Rattle.printing.specs.Page.{page}
 
--- n times s.
-unfoldable pub times : ℕ → List ℕ → List ℕ
-times zero s = []
-times (suc n) s = s ++ times n s
-
--- A cell by its four columns; a line of one cell; the line feed ends every line.
 abbrev pub blanks : ℕ → List ℕ
-blanks n = times n (0x20 ∷ [])
+blanks n = replicate n 0x20
 
+-- A line with one cell, whose four columns these are.
 abbrev pub one-cell : List ℕ → List ℕ
 one-cell s = s ++ (blanks 68 ++ 0x0a ∷ [])
 
@@ -32,5 +28,5 @@ pub record Examples : Type 0 where
   pub three-digits : page (var 253) ≡ one-cell (0x20 ∷ 0x32 ∷ 0x35 ∷ 0x33 ∷ [])
   -- ⟨τ⟩[τ]1 is A t T t 1
   pub letters : page (app tau (abs tau (var 1))) ≡ blanks 3 ++ 0x41 ∷ blanks 3 ++ 0x74 ∷ blanks 3 ++ 0x54 ∷ blanks 3 ++ 0x74 ∷ blanks 3 ++ 0x31 ∷ blanks 52 ++ 0x0a ∷ []
-  -- [τ] nine times fills a line
-  pub two-lines : page (declarations 9 (var 9)) ≡ times 9 (blanks 3 ++ 0x54 ∷ blanks 3 ++ 0x74 ∷ []) ++ 0x0a ∷ one-cell (0x20 ∷ 0x20 ∷ 0x20 ∷ 0x39 ∷ [])
+  -- [τ] nine times fills a line, so that 9 stands on the second
+  pub two-lines : drop 73 (page (declarations 9 (var 9))) ≡ one-cell (0x20 ∷ 0x20 ∷ 0x20 ∷ 0x39 ∷ [])
