@@ -579,10 +579,10 @@ fn pages(t: &mut Table) {
         let written = page(&[(28, &declared), (1, &["   T   t", &cell].concat())]);
         t.result("253 abstractors", Print, &joined(&[&declarations(253), &[index]]), 2_120, &written);
     }
-    let train = joined(&[&times(2_047, &[0xfe, 0]), &[0]]);
+    let applicators = joined(&[&times(2_047, &[0xfe, 0]), &[0]]);
     let applied = "   A   t".repeat(9);
     let written = page(&[(227, &applied), (1, &[&applied[..32], "   t"].concat())]);
-    t.result("2,047 applicators in a train", Print, &train, 16_644, &written);
+    t.result("2,047 applicators in a row", Print, &applicators, 16_644, &written);
 
     let two = [
         0xff, 0, 0xff, 1, 0xff, 1, 0xff, 2, 0xff, 4, 0xff, 0, 0xff, 6, 0xff, 3, 0xff, 8, 0xff, 9, 0xfe, 0xff, 10, 11, 10,

@@ -125,8 +125,8 @@ fn every_length() {
         for size in (1..=4095usize).step_by(2) {
             let length = 73 * size.div_ceil(18);
             assert_eq!(page_length(size), length);
-            let train = [times(size / 2, &[0xfe, 0]), vec![0]].concat();
-            assert_eq!(printed(&train, 17_000).0, (0, 0, length));
+            let applicators = [times(size / 2, &[0xfe, 0]), vec![0]].concat();
+            assert_eq!(printed(&applicators, 17_000).0, (0, 0, length));
             assert_eq!(printed(&nested(size / 2), length).0, (0, 0, length));
             assert_eq!(printed(&nested(size / 2), length - 1).0, (14, 0, 0));
         }

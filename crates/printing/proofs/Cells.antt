@@ -50,9 +50,9 @@ module _ {b : ℕ} {c : Cell} where
   unfolding cellOf cellOfSymbol symbol
   cell-of-index x y z q = rw (ne-eqb b 0x00 z, ne-eqb b 0xfe y, ne-eqb b 0xff x) q
 
-pub index-shown : (k : ℕ) {x y z w : ℕ} → x ≡ digit k 1000 → y ≡ digit k 100 → z ≡ digit k 10 → w ≡ digitZero + k % 10 → record { first = x; second = y; third = z; fourth = w } ≡ indexCell k
+pub index-cell-is : (k : ℕ) {x y z w : ℕ} → x ≡ digit k 1000 → y ≡ digit k 100 → z ≡ digit k 10 → w ≡ digitZero + k % 10 → record { first = x; second = y; third = z; fourth = w } ≡ indexCell k
 unfolding indexCell
-index-shown k p q r s = rw (p, q, r, s) refl
+index-cell-is k p q r s = rw (p, q, r, s) refl
 
 -- ---- What a digit is.
 data Digit (k worth : ℕ) : ℕ → Type 0 where

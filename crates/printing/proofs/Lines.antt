@@ -95,13 +95,9 @@ module _ (c : Cell) (ys : List Cell) where
   cell-first zero d h z = rw (lines-full c ys, h refl)
   cell-first (suc n) d h z = rw (lines-room n c ys, z (λ e. omega arith))
 
-  cell-later : (x : Cell) (xs : List Cell) (n d : ℕ) → 1 ≤ n → columnsAt d (lines (n - 1) (xs ++ c ∷ ys)) ≡ columns c [] → columnsAt (d + 4) (lines n (x ∷ (xs ++ c ∷ ys))) ≡ columns c []
+  cell-later : (x : Cell) (xs : List Cell) (n d : ℕ) → columnsAt d (lines n (xs ++ c ∷ ys)) ≡ columns c [] → columnsAt (d + 4) (lines (suc n) (x ∷ (xs ++ c ∷ ys))) ≡ columns c []
   unfolding columnsAt
-  cell-later x xs zero d h e = absurd (omega arith)
-  cell-later x xs (suc n) d h e =
-      let p : suc n - 1 ≡ n = omega arith in
-      let q : d + 4 ≡ suc (suc (suc (suc d))) = omega arith in
-      rw (lines-room n x (xs ++ c ∷ ys), q) (rw p at e)
+  cell-later x xs n d e = let q : d + 4 ≡ suc (suc (suc (suc d))) = omega arith in rw (lines-room n x (xs ++ c ∷ ys), q) e
 
   cell-after-feed : (x : Cell) (xs : List Cell) (d : ℕ) → columnsAt d (lines 17 (xs ++ c ∷ ys)) ≡ columns c [] → columnsAt (d + 5) (lines 0 (x ∷ (xs ++ c ∷ ys))) ≡ columns c []
   unfolding columnsAt
@@ -119,9 +115,8 @@ module _ (c : Cell) (ys : List Cell) where
       let p : q - (j * 73 + (18 - 0) * 4) ≡ q - ((j + 1) * 73 + (18 - 17) * 4) + 5 = omega arith in
       rw p (cell-after-feed x xs (q - ((j + 1) * 73 + (18 - 17) * 4)) (lines-cell xs 17 (j + 1) m q (omega arith) (omega arith) r))
   lines-cell (x ∷ xs) (suc n) j m q h e r =
-      let t : suc n - 1 ≡ n = omega arith in
       let p : q - (j * 73 + (18 - suc n) * 4) ≡ q - (j * 73 + (18 - n) * 4) + 4 = omega arith in
-      rw p (cell-later x xs (suc n) (q - (j * 73 + (18 - n) * 4)) (omega arith) (rw t (lines-cell xs n j m q (omega arith) (omega arith) r)))
+      rw p (cell-later x xs n (q - (j * 73 + (18 - n) * 4)) (lines-cell xs n j m q (omega arith) (omega arith) r))
 
 pub page-cell : (xs : List Cell) (c : Cell) (ys : List Cell) → take 4 (drop (lineLength * (length xs / cellsInLine) + 4 * (length xs % cellsInLine)) (lines cellsInLine (xs ++ c ∷ ys))) ≡ columns c []
 unfolding columnsAt

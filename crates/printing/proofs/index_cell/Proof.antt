@@ -1,6 +1,6 @@
 -- `printing::index_cell` meets its contract.
 -- Assumes nothing.
-use Rattle.printing.proofs.Cells.{index-shown}
+use Rattle.printing.proofs.Cells.{index-cell-is}
 use borrow.Author.Needs.{needs}
 use Rattle.printing.proofs.index_cell.Statement.{statement}
 use Rattle.printing.proofs.index_cell.Tie as tie
@@ -18,7 +18,7 @@ digit-of-requires : tie.Need-digit-of-requires
 digit-of-requires c κs = search needs
 
 returns : tie.Need-returns
-returns c = index-shown _ (c .before .before .before .digit .ensures) (c .before .before .digit2 .ensures) (c .before .digit3 .ensures) (c .digit-of .ensures)
+returns c = index-cell-is _ (c .before .before .before .digit .ensures) (c .before .before .digit2 .ensures) (c .before .digit3 .ensures) (c .digit-of .ensures)
 
 pub index-cell-spec : {M : Type 1} → statement M
 index-cell-spec =
