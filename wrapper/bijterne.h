@@ -3,11 +3,11 @@
  * A slice is a pointer and a length: s and n are the input, out and m the buffer that the caller lends. Each pointer is a
  * valid pointer, also for length 0. out overlaps neither s nor answer, and answer does not overlap s.
  *
- * Any bytes may be handed in, and every call returns. No call relies on an earlier one and none keeps anything, so several
- * threads may call at once. The input is never changed.
+ * Any bytes and numbers may be handed in, and every call returns. No call relies on an earlier one and none keeps anything, so
+ * several threads may call at once. The input is never changed.
  *
- * In every answer, answer[0] is the number, 0 if accepted, and answer[1] is the place, 0 if accepted. At a refusal the buffer
- * keeps every byte; after a result it keeps every byte past it.
+ * In every answer, answer[0] is the number, 0 if accepted. Where bytes are handed in, answer[1] is the place, 0 if accepted. At
+ * a refusal the buffer keeps every byte; after a result it keeps every byte past it.
  */
 #ifndef BIJTERNE_H
 #define BIJTERNE_H
@@ -35,7 +35,8 @@ enum bijterne_number {
     BIJTERNE_OUTGROWN = 11,           /* over a limit on the way; a byte of the term; 0 for a written result */
     BIJTERNE_BODIES_DIFFER = 12,      /* the applicator, in the term */
     BIJTERNE_GROUPS_LEFT = 13,        /* the head of the first unused group, in the file */
-    BIJTERNE_BUFFER_TOO_SHORT = 14    /* the result is longer than the buffer; 0 */
+    BIJTERNE_BUFFER_TOO_SHORT = 14,   /* the result is longer than the buffer; 0 */
+    BIJTERNE_TOO_LONG_TO_COUNT = 15   /* a length over 7; no place */
 };
 
 /* Examines a bare term: numbers 3 to 6. answer: number, place, degree (0 if refused). */
@@ -63,6 +64,14 @@ void bijterne_apply_step(const uint8_t *s, size_t n, uint8_t kind, uint16_t plac
  * right-aligned: t for tau, A for fe, T for ff, or the index in decimal. A line has 18 of these and a line feed; the last is
  * filled with blanks. No zero byte ends the page. answer: number, place, length written (0 if refused). */
 void bijterne_print_term(const uint8_t *s, size_t n, uint8_t *out, size_t m, uint64_t answer[3]);
+
+/* The longest strings that bijterne_count_strings counts. */
+#define BIJTERNE_LONGEST_COUNTED 7
+
+/* Counts all byte strings of a length by what bijterne_examine_term answers to them: number 15. answer: number, how many are
+ * accepted, how many refused with 3, how many refused with 5 (0 if the length is refused). The three add up to 256 to the power
+ * of the length: no other answer occurs. */
+void bijterne_count_strings(size_t length, uint64_t answer[4]);
 
 /* Checks a file: numbers 1 to 13. answer: number, place, comparisons completed, degree of the term (0 for numbers 1 to 6).
  * The deepest term needs 3 MiB of stack, and even a small file some 190 KiB; the other calls need less than 48 KiB. */

@@ -1,5 +1,5 @@
-//! The check of a file on bytes, and the printing of a term, made fast: written from documents 01 and 02, with the same answers
-//! as `reference`.
+//! The check of a file on bytes, the printing of a term and the counting of strings, made fast: written from documents 01 and
+//! 02, with the same answers as `reference`.
 //!
 //! Every term of a state is a piece of the file's term, so no term is copied in the walk. A piece is a place and an
 //! environment, which says for each abstractor of the text around the place which entry of R stands for it. Entries are
@@ -9,7 +9,7 @@
 //! What a state holds moves between R, W, Y and B, and its size changes only where a variable is typed. The scope of R and B
 //! never grows either but there, so that after an abstractor only what still waits is tested.
 
-use bijterne::Written;
+use bijterne::{CountAnswer, Written};
 
 const MAX_FILE: usize = 65_535;
 pub const MAX_TERM: usize = 4096;
@@ -1105,4 +1105,40 @@ fn write_line(bytes: &[u8], line: &mut [u8]) {
         cell.copy_from_slice(&PRINTED[usize::from(byte)]);
     }
     line[LINE - 1] = b'\n';
+}
+
+// ---- Counting.
+
+const MAX_COUNTED: usize = 7;
+
+/// A term of 2n + 1 bytes has n wagons, those inside others too.
+const MAX_WAGONS: usize = MAX_COUNTED / 2;
+
+/// Counts the strings of a length. A term with wagons is the first of them, with a term inside, and then a term.
+#[inline(never)]
+pub fn count_strings(length: usize) -> CountAnswer {
+    if length > MAX_COUNTED {
+        return CountAnswer { number: 15, accepted: 0, refused_3: 0, refused_5: 0 };
+    }
+    let strings = 1 << (8 * length);
+    if length % 2 == 0 {
+        return CountAnswer { number: 0, accepted: 0, refused_3: strings, refused_5: 0 };
+    }
+    let wagons = length / 2;
+    // terms[n]: those of n wagons, with any indices. closed[n][depth]: of these, those with no index beyond its scope where the
+    // term stands in the scope of `depth` abstractors.
+    let mut terms = [0; MAX_WAGONS + 1];
+    let mut closed = [[0; MAX_WAGONS + 1]; MAX_WAGONS + 1];
+    terms[0] = APPLICATOR.into();
+    closed[0] = std::array::from_fn(|depth| 1 + depth as u64);
+    for n in 1..=wagons {
+        for (inside, rest) in (0..n).map(|inside| (inside, n - 1 - inside)) {
+            terms[n] += 2 * terms[inside] * terms[rest];
+            for depth in 0..=wagons - n {
+                closed[n][depth] += closed[inside][depth] * (closed[rest][depth] + closed[rest][depth + 1]);
+            }
+        }
+    }
+    let (terms, accepted) = (terms[wagons], closed[wagons][0]);
+    CountAnswer { number: 0, accepted, refused_3: strings - terms, refused_5: terms - accepted }
 }

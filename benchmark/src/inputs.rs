@@ -7,11 +7,12 @@ use reference::normaliser::{in_parts, meet, possible_steps, Pairs, Reduction};
 use reference::term::{abs, app, Term};
 use reference::walk::walk;
 
-/// What is called with an input: a file is checked, or a bare term printed.
+/// What is called with an input: a file is checked, a bare term printed, or the strings as long as the input counted.
 #[derive(Clone, Copy)]
 pub enum Call {
     Check,
     Print,
+    Count,
 }
 
 pub struct Input {
@@ -35,7 +36,11 @@ const fn printed(name: &'static str, what: &'static str, make: fn() -> Vec<u8>) 
     Input { name, what, call: Call::Print, number: 0, make }
 }
 
-pub const ALL: [Input; 27] = [
+const fn counted(name: &'static str, what: &'static str, make: fn() -> Vec<u8>) -> Input {
+    Input { name, what, call: Call::Count, number: 0, make }
+}
+
+pub const ALL: [Input; 28] = [
     accepted("small", "small file (E3 of document 01)", small),
     accepted("book1", "book of 1 KB", || book(1023, 0, SHORT)),
     accepted("book2", "book of 2 KB", || book(2047, 0, SHORT)),
@@ -63,6 +68,7 @@ pub const ALL: [Input; 27] = [
     printed("pageB", "page of the book of 4 KB", || book_term(4095, 0).bytes()),
     printed("pageU", "page of 2,047 deep in U", || gen::nested(2047)),
     printed("page3", "page of 1,795 indices of three digits", long_indices),
+    counted("count7", "count of the strings of 7 bytes", || vec![0; 7]),
 ];
 
 fn joined(parts: &[&[u8]]) -> Vec<u8> {

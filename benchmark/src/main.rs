@@ -2,7 +2,8 @@
 //!
 //!     benchmark                            every input: the answers of all three implementations, then the times
 //!     benchmark quick                      the same without the reference's answers, which take a minute
-//!     benchmark agree SEED COUNT           fast and proved against the reference on generated files and bare terms
+//!     benchmark agree SEED COUNT           fast and proved against the reference on generated files and bare terms, and
+//!                                          against each other in every count
 //!     benchmark wrapper                    the three ways to check a file from Rust
 //!     benchmark one NAME proved|fast [N]   one input alone, N times, for a profiler
 
@@ -10,7 +11,7 @@ mod chains;
 mod fast;
 mod inputs;
 
-use bijterne::{Written, LONGEST_PAGE};
+use bijterne::{CountAnswer, Written, LONGEST_COUNTED, LONGEST_PAGE};
 use fast::{Answer, Space};
 use inputs::{Call, Input};
 use reference::file::read_fields;
@@ -49,7 +50,7 @@ const CLEARED: usize = 1;
 const KEPT: usize = 2;
 const REFERENCE: usize = 3;
 
-/// The numbers of an answer in turn: of a check four, of printing three and a 0.
+/// The numbers of an answer in turn: of a check and of a count four, of printing three and a 0.
 type Numbers = [usize; 4];
 
 /// One call. Where a page is printed, the buffer is lent for it.
@@ -69,6 +70,14 @@ fn answer(call: Call, which: usize, bytes: &[u8], space: &mut Space, buffer: &mu
                 _ => reference_page(bytes, buffer),
             };
             [number as usize, place, length, 0]
+        }
+        Call::Count => {
+            let CountAnswer { number, accepted, refused_3, refused_5 } = match which {
+                PROVED => bijterne::count_strings(bytes.len()),
+                // Without buffers, and the reference is not asked.
+                _ => fast::count_strings(bytes.len()),
+            };
+            [u64::from(number), accepted, refused_3, refused_5].map(|value| value as usize)
         }
     }
 }
@@ -117,6 +126,7 @@ fn agree(seed: u64, count: u64) {
     let mut space = Box::new(Space::new());
     agree_on_files(&mut rng, seed, count, &mut space);
     agree_on_pages(&mut rng, seed, count, &mut space);
+    agree_on_counts(&mut space);
 }
 
 /// Generated files: every tenth with chains of copied text, every tenth at a limit, and of the others one in eight too.
@@ -170,6 +180,15 @@ fn agree_on_pages(rng: &mut Rng, seed: u64, count: u64, space: &mut Space) {
     }
 }
 
+/// The strings of every length that is counted, and of the next.
+fn agree_on_counts(space: &mut Space) {
+    let last = LONGEST_COUNTED + 1;
+    for length in 0..=last {
+        common_answer(&format!("strings of {length} bytes"), Call::Count, REFERENCE, &vec![0; length], 0, space);
+    }
+    println!("strings of 0 to {last} bytes counted alike");
+}
+
 /// About 4,096 bytes, or index 253 with about 253 abstractors in scope.
 fn term_near_limit(rng: &mut Rng) -> Vec<u8> {
     if rng.below(2) == 0 {
@@ -198,8 +217,8 @@ const ROUNDS: usize = 100;
 fn benchmark(with_reference: bool) {
     println!(
         "Release builds. proved: clears its own buffers in every call. cleared: fast, clears its buffers in every call, {} bytes\n\
-         for a check, up to {} for a page. kept: fast, keeps its buffers and clears nothing. The best of {ROUNDS} interleaved\n\
-         measurements counts.\n",
+         for a check, up to {} for a page, none for a count. kept: fast, keeps its buffers and clears nothing. The best of\n\
+         {ROUNDS} interleaved measurements counts.\n",
         std::mem::size_of::<Space>(),
         fast::MAX_TERM
     );
@@ -253,6 +272,7 @@ fn verify(input: &Input, bytes: &[u8], last: usize, space: &mut Space) {
             (of_check(answer), columns.map(|column| column.to_string()), &given[..])
         }
         Call::Print => (given, ["", &bytes.len().to_string(), "", "", ""].map(String::from), &given[..3]),
+        Call::Count => (given, [""; 5].map(String::from), &given[..]),
     };
     let [file, term, comparisons, steps, states] = columns;
     let shown: Vec<String> = shown.iter().map(usize::to_string).collect();

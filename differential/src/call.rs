@@ -13,15 +13,22 @@ pub enum Kind {
     Step(u8, u16),
     Check,
     Print,
+    /// The strings of this length.
+    Count(usize),
 }
 
 use Kind::*;
 
+extern "C" {
+    /// Called as from C, so that the answer can be filled beforehand: a number that is not written shows then.
+    fn bijterne_count_strings(length: usize, answer: *mut [u64; 4]);
+}
+
 /// Bytes before and after a lent buffer that no call may touch.
 const GUARD: usize = 8;
 
-/// A call: which one, its input, and for Type, Step and Print the bytes of the buffer before the call, with a guard on each
-/// side.
+/// A call: which one, its input (none for Count), and for Type, Step and Print the bytes of the buffer before the call, with a
+/// guard on each side.
 #[derive(Clone, PartialEq, Eq)]
 pub struct Call {
     pub kind: Kind,
@@ -92,6 +99,12 @@ impl Call {
                 Some([a.number.into(), a.place as u64, a.comparisons as u64, a.degree as u64])
             }
             Print => Some(written(bijterne::print_term(s, lent(&mut buffer)))),
+            Count(length) => {
+                let mut numbers = [u64::MAX; 4];
+                // SAFETY: the pointer is that of a live array of four numbers.
+                unsafe { bijterne_count_strings(length, &mut numbers) };
+                Some(numbers)
+            }
         };
         Answer { numbers, buffer }
     }
@@ -120,6 +133,10 @@ impl Call {
                     Answer::of([a.number.into(), a.place as u64, a.comparisons as u64, a.degree], buffer)
                 }
                 Print => Answer::of_written(reference::print_term(s, lent(&mut buffer)), buffer),
+                Count(length) => {
+                    let a = reference::count_strings(length);
+                    Answer::of([a.number.into(), a.accepted, a.refused_3, a.refused_5], buffer)
+                }
             }
         }))
         .ok()

@@ -1,5 +1,5 @@
-//! differential SEED COUNT: the proved calls, through the Rust wrapper, against the independent implementation. Every number
-//! of the two answers is compared, and every byte of a lent buffer with 8 bytes on each side of it.
+//! differential SEED COUNT: the proved calls, through the Rust wrapper (Count as from C), against the independent
+//! implementation. Every number of the two answers is compared, and every byte of a lent buffer with 8 bytes on each side of it.
 //!
 //! Compared first, whatever the seed:
 //! - document 01's examples and the inputs at the limits in `named`, with each other and with the answer written there, and the
@@ -9,14 +9,16 @@
 //!   strings of at most 5 bytes over the interesting values, since the 131 million terms of 5 bytes differ otherwise only in
 //!   indices beyond every scope (Term, Type, Print; for those that are closed terms also Step, of kinds 0 to 4 at every place);
 //! - all closed terms of at most 9 bytes with indices of at most 2, for Step of kind 3 at every applicator;
-//! - closed terms of every size about a line's end, the smallest and the longest, for Print, into the buffers that `pages` says.
+//! - closed terms of every size about a line's end, the smallest and the longest, for Print, into the buffers that `pages` says;
+//! - all strings of at most 2 bytes, counted by the proved library's own answers to Term, for Count.
 //!
-//! Then, for each number below COUNT, from the seed: a file (File, Check) and a bare term (Term, Type, Step, Print), the buffer
-//! longer than the result, and then empty, too short by one, exact or longer by one, its bytes at random.
+//! Then, for each number below COUNT, from the seed: a file (File, Check); a bare term (Term, Type, Step, Print), the buffer
+//! longer than the result, and then empty, too short by one, exact or longer by one, its bytes at random; a length (Count).
 //!
 //! A disagreement prints the smallest call that it could be shrunk to, and the exit status is 1; so it is if in a run of
-//! 100,000 or more some number from 0 to 14 was no call's answer, or no accepted file had so many comparisons, or steps, or
-//! some number was missing from the answers with kind 3, or 0, 3, 4, 5, 6 or 14 from those of Print.
+//! 100,000 or more some number from 0 to 15 was no call's answer, or no accepted file had so many comparisons, or steps, or
+//! some number was missing from the answers with kind 3, or 0, 3, 4, 5, 6 or 14 from those of Print, or 0 or 15 from those of
+//! Count.
 
 mod call;
 mod named;
@@ -116,6 +118,7 @@ fn fixed(tally: &mut Tally) -> Result<usize, Disagreed> {
     pages(&mut rng, tally)?;
     let every: Vec<u8> = (0..=255).collect();
     let pairs = strings(&every, 2);
+    counted(&pairs)?;
     let triples = pairs.iter().filter(|pair| pair.len() == 2).flat_map(|pair| [0xfe, 0xff].map(|tag| [&[tag], &pair[..]].concat()));
     for input in pairs.iter().cloned().chain(triples).chain(strings(&interesting, 5)) {
         let answer = compare(&Call::new(Kind::Term, &input), tally)?;
@@ -135,6 +138,22 @@ fn fixed(tally: &mut Tally) -> Result<usize, Disagreed> {
         }
     }
     Ok(written)
+}
+
+/// Counts these strings, all of at most 2 bytes, by the proved library's answers to Term, and compares its answers to Count.
+fn counted(pairs: &[Vec<u8>]) -> Result<(), Disagreed> {
+    for length in 0..=2 {
+        let strings = pairs.iter().filter(|string| string.len() == length);
+        let numbers: Vec<_> = strings.map(|string| Call::new(Kind::Term, string).proved().number()).collect();
+        let count = |number: usize| numbers.iter().filter(|own| **own == Some(number)).count() as u64;
+        let answer = Call::new(Kind::Count(length), &[]).proved();
+        let counts = [0, count(0), count(3), count(5)];
+        if answer.numbers != Some(counts) {
+            println!("DISAGREE of the proved calls on strings of {length} bytes: {answer}, and one by one {counts:?}");
+            return Err(Disagreed);
+        }
+    }
+    Ok(())
 }
 
 /// Prints closed terms into no bytes, and into buffers as long as the page or up to 3 bytes shorter or longer; a term of at most
@@ -188,7 +207,7 @@ fn compare_written(kind: Kind, input: &[u8], rng: &mut Rng, tally: &mut Tally) -
     Ok(())
 }
 
-/// The file and the bare term made from one number.
+/// The file, the bare term and the length made from one number.
 fn random(number: u64, tally: &mut Tally) -> Result<(), Disagreed> {
     let mut rng = Rng::new(number);
     let input = set_aside(|| random_file(&mut rng));
@@ -199,7 +218,15 @@ fn random(number: u64, tally: &mut Tally) -> Result<(), Disagreed> {
     compare_written(Kind::Type, &input, &mut rng, tally)?;
     let (kind, place) = set_aside(|| step_for(&mut rng, &input));
     compare_written(Kind::Step(kind, place), &input, &mut rng, tally)?;
-    compare_written(Kind::Print, &input, &mut rng, tally)
+    compare_written(Kind::Print, &input, &mut rng, tally)?;
+    // At most 7, the same with one bit more, or of any width.
+    let length = match rng.below(3) {
+        0 => rng.below(8),
+        1 => rng.below(8) + (1 << rng.between(3, 63)),
+        _ => (rng.next_u64() >> rng.below(64)) as usize,
+    };
+    compare(&Call::new(Kind::Count(length), &[]), tally)?;
+    Ok(())
 }
 
 /// All comparisons. What is made from the seed is dealt to the threads in turn, so its answers do not depend on their number.

@@ -1,5 +1,5 @@
-//! Document 01's examples, the readings of kind 3 and of printing, and inputs just within a limit and just beyond it, each with
-//! its answer written out.
+//! Document 01's examples, the readings of kind 3, of printing and of counting, and inputs just within a limit and just beyond
+//! it, each with its answer written out.
 //!
 //! Every state's size is odd: an item counts 1 and a term, whose size is odd. So 8,192 bytes is no state's size, and 8,191 and
 //! 8,193 are the neighbours of that limit; 4,095 and 4,097 those of a compared body's. While B is the term's own text, R, W and
@@ -35,6 +35,11 @@ impl Table {
     /// Examining a file: number, place, and the part's start and end.
     fn examine(&mut self, name: &'static str, file: &[u8], numbers: [u64; 4]) {
         self.0.push(Named { name, call: Call::new(Kind::File, file), numbers: Some(numbers), written: None });
+    }
+
+    /// Counting: number, accepted, refused 3, refused 5.
+    fn count(&mut self, name: &'static str, length: usize, numbers: [u64; 4]) {
+        self.0.push(Named { name, call: Call::new(Kind::Count(length), &[]), numbers: Some(numbers), written: None });
     }
 
     /// A file with empty groups.
@@ -101,6 +106,7 @@ pub fn named() -> Vec<Named> {
     substitutions(&mut table);
     substitutions_in_files(&mut table);
     pages(&mut table);
+    counts(&mut table);
     table.0
 }
 
@@ -600,5 +606,22 @@ fn pages(t: &mut Table) {
     for (size, lines) in [(1, 1), (3, 1), (17, 1), (19, 2), (35, 2), (37, 3), (53, 3), (55, 4), (4_085, 227), (4_087, 228)] {
         t.bare("about a line's end, exact", Print, &nested(size / 2), 73 * lines, Some((0, 0, 73 * lines as u64)));
         t.bare("about a line's end, shorter", Print, &nested(size / 2), 73 * lines - 1, Some((14, 0, 0)));
+    }
+}
+
+/// The reading C1: every length that is counted, and lengths over 7.
+fn counts(t: &mut Table) {
+    t.count("no byte", 0, [0, 0, 1, 0]);
+    t.count("1 byte", 1, [0, 1, 2, 253]);
+    t.count("2 bytes", 2, [0, 0, 65_536, 0]);
+    t.count("3 bytes", 3, [0, 3, 16_648_184, 129_029]);
+    t.count("4 bytes", 4, [0, 0, 4_294_967_296, 0]);
+    t.count("5 bytes", 5, [0, 22, 1_099_380_531_264, 131_096_490]);
+    t.count("6 bytes", 6, [0, 0, 281_474_976_710_656, 0]);
+    t.count("7 bytes", 7, [0, 239, 72_057_427_545_357_696, 166_492_570_001]);
+    let small = [8, 9, 15, 16, 255, 256, 257, 4_095, 4_096, 65_535, 65_536];
+    let large = [(1 << 32) - 1, 1 << 32, (1 << 32) + 7, 1 << 63, usize::MAX];
+    for length in small.into_iter().chain(large) {
+        t.count("over 7 bytes", length, [15, 0, 0, 0]);
     }
 }

@@ -137,7 +137,7 @@ fn with_less(call: &Call, differs: impl Fn(&Call) -> bool) -> Option<Call> {
     buffers.chain(inputs).find(&differs)
 }
 
-/// The call with a smaller byte in its input, a smaller place of its step, or a buffer of 0.
+/// The call with a smaller byte in its input, a smaller place of its step or length to count, or a buffer of 0.
 fn with_lower(call: &Call, differs: impl Fn(&Call) -> bool) -> Option<Call> {
     let bytes = (0..call.input.len()).flat_map(|at| {
         lower(call.input[at].into()).map(move |value| {
@@ -146,12 +146,14 @@ fn with_lower(call: &Call, differs: impl Fn(&Call) -> bool) -> Option<Call> {
             changed
         })
     });
-    let step = if let Kind::Step(kind, place) = call.kind { Some((kind, place)) } else { None };
-    let steps = step.into_iter().flat_map(|(kind, place)| {
-        lower(place.into()).map(move |place| Call { kind: Kind::Step(kind, place as u16), ..call.clone() })
-    });
+    let kinds: Vec<Kind> = match call.kind {
+        Kind::Step(kind, place) => lower(place.into()).map(|place| Kind::Step(kind, place as u16)).collect(),
+        Kind::Count(length) => lower(length).map(Kind::Count).collect(),
+        _ => Vec::new(),
+    };
+    let kinds = kinds.into_iter().map(|kind| Call { kind, ..call.clone() });
     let zeros = Some(call.with_zeros(call.lent())).filter(|zeros| zeros != call);
-    bytes.chain(steps).chain(zeros).find(differs)
+    bytes.chain(kinds).chain(zeros).find(differs)
 }
 
 /// Some values below the value.

@@ -5,22 +5,23 @@ use reference::file::read_fields;
 use reference::frame::SUBSTITUTION;
 
 /// The last column is 'none'.
-const NUMBERS: usize = 16;
+const NUMBERS: usize = 17;
 /// The calls; then again the step calls of kind 3, and the checks of a file with a step of kind 3. Each with the numbers that
 /// some answer in its row must have.
-const ROWS: [(&str, &[usize]); 8] = [
+const ROWS: [(&str, &[usize]); 9] = [
     ("term", &[]),
     ("file", &[]),
     ("type", &[]),
     ("step", &[]),
     ("check", &[]),
     ("print", &[0, 3, 4, 5, 6, 14]),
+    ("count", &[0, 15]),
     ("step 3", &[0, 10, 11, 14]),
     ("with 3", &[0, 9, 10, 11, 12, 13]),
 ];
 const CHECK: usize = 4;
-const STEP_3: usize = 6;
-const WITH_3: usize = 7;
+const STEP_3: usize = 7;
+const WITH_3: usize = 8;
 const BUCKETS: [&str; 5] = ["0", "1", "2-5", "6-20", "more"];
 
 #[derive(Clone, Default)]
@@ -41,6 +42,7 @@ impl Tally {
             Kind::Step(..) => 3,
             Kind::Check => CHECK,
             Kind::Print => 5,
+            Kind::Count(_) => 6,
         };
         let number = answer.number().unwrap_or(NUMBERS - 1);
         self.rows[row][number] += 1;
@@ -81,7 +83,7 @@ impl Tally {
         let calls: u64 = self.rows[..STEP_3].iter().flatten().sum();
         println!("{calls} calls compared, {files} of them checks of a file. By number:");
         print!("      ");
-        for number in 0..15 {
+        for number in 0..NUMBERS - 1 {
             print!(" {number:>7}");
         }
         println!(" {:>7}", "none");
@@ -102,7 +104,7 @@ impl Tally {
     /// What no answer had, among the numbers, the comparisons of accepted files, steps, and the numbers of `ROWS`.
     pub fn missing(&self) -> Vec<String> {
         let mut missing = Vec::new();
-        for number in 0..15 {
+        for number in 0..NUMBERS - 1 {
             if self.rows.iter().all(|row| row[number] == 0) {
                 missing.push(format!("number {number}"));
             }

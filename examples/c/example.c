@@ -73,6 +73,14 @@ static void print_term(const char *what, const uint8_t *s, size_t n, size_t m)
     fwrite(out, 1, (size_t)answer[2], stdout);
 }
 
+static void count_strings(const char *what, size_t length)
+{
+    uint64_t answer[4];
+    bijterne_count_strings(length, answer);
+    numbers(what, answer, 4);
+    printf("\n");
+}
+
 /* The file of a term of abstractors, each inside the one before. */
 static void check_deep(const char *what, size_t depth)
 {
@@ -125,6 +133,9 @@ int main(void)
 
     print_term("print", term, sizeof term, BIJTERNE_LONGEST_PAGE);
     print_term("print into 72 bytes", term, sizeof term, 72);
+
+    count_strings("count strings of 3 bytes", 3);
+    count_strings("count strings of 8 bytes", 8);
 
     bijterne_examine_file(cut_short, sizeof cut_short, answer);
     numbers("examine a file cut short", answer, 3);

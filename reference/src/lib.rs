@@ -1,8 +1,9 @@
 //! A reference implementation of the checker of document 01 ("Delta-Lambda
-//! checking with supplied reductions") with document 02's kind 3 and printing,
-//! written for clarity: terms are trees that keep their size, the lists are
-//! lifted literally and every state is measured anew.
+//! checking with supplied reductions") with document 02's kind 3, printing and
+//! counting, written for clarity: terms are trees that keep their size, the
+//! lists are lifted literally and every state is measured anew.
 
+pub mod counts;
 pub mod file;
 pub mod frame;
 pub mod gen;
@@ -15,6 +16,7 @@ pub mod stack;
 pub mod term;
 pub mod walk;
 
+use counts::{counts, MAX_COUNTED};
 use file::{read_fields, Fields};
 use frame::{apply, body_outgrown, type_of, Frame, Step};
 use mistakes::{made, Mistake};
@@ -69,6 +71,16 @@ pub struct CheckAnswer {
     pub comparisons: usize,
     /// Of the whole term; 0 for numbers 1 to 6.
     pub degree: u64,
+}
+
+#[derive(Clone, Copy, PartialEq, Eq, Debug)]
+pub struct CountAnswer {
+    pub number: u8,
+    /// How many strings examining a term accepts, and how many it refuses
+    /// with 3 and with 5; all 0 if the length is refused.
+    pub accepted: u64,
+    pub refused_3: u64,
+    pub refused_5: u64,
 }
 
 /// Examines a bare term.
@@ -151,6 +163,26 @@ pub fn print_term(bytes: &[u8], buffer: &mut [u8]) -> StepAnswer {
             write_bytes(&page, buffer)
         }))
     })
+}
+
+/// Counts the strings of this length by the answers of `examine_term`.
+pub fn count_strings(length: usize) -> CountAnswer {
+    let length = match made(Mistake::LengthIn32Bits) {
+        false => length,
+        true => length as u32 as usize,
+    };
+    let (number, [accepted, refused_3, refused_5]) = match length {
+        0..=MAX_COUNTED => (0, counts(length)),
+        8 if made(Mistake::EightNotRefused) => (0, [0; 3]),
+        _ if made(Mistake::CountsWith15) => (TOO_LONG_TO_COUNT, counts(MAX_COUNTED)),
+        _ => (TOO_LONG_TO_COUNT, [0; 3]),
+    };
+    CountAnswer {
+        number,
+        accepted,
+        refused_3,
+        refused_5,
+    }
 }
 
 /// Checks a file.

@@ -47,11 +47,27 @@ pub enum Mistake {
     ShortBufferFirst,
     /// A page of more bytes than a term may have is outgrown.
     PageOutgrown,
+    /// A string with a K or U of more than one byte is counted as no term.
+    LongPartsNotCounted,
+    /// No string with a byte fd is counted.
+    FdNotCounted,
+    /// A term with an index beyond scope is counted as refused 3.
+    BeyondScopeCountedAs3,
+    /// The last two counts are exchanged.
+    CountsExchanged,
+    /// Of a count, the low 32 bits alone are answered.
+    CountsIn32Bits,
+    /// 15 begins at length 9, and length 8 has counts of 0.
+    EightNotRefused,
+    /// Of a length to count, the low 32 bits alone are read.
+    LengthIn32Bits,
+    /// 15 comes with the counts of length 7.
+    CountsWith15,
 }
 
 use Mistake::*;
 
-pub const MISTAKES: [Mistake; 21] = [
+pub const MISTAKES: [Mistake; 29] = [
     WaitingNotLifted,
     TakesFromWFirst,
     OutgrownAfterTheRule,
@@ -73,6 +89,14 @@ pub const MISTAKES: [Mistake; 21] = [
     ExactBufferRefused,
     ShortBufferFirst,
     PageOutgrown,
+    LongPartsNotCounted,
+    FdNotCounted,
+    BeyondScopeCountedAs3,
+    CountsExchanged,
+    CountsIn32Bits,
+    EightNotRefused,
+    LengthIn32Bits,
+    CountsWith15,
 ];
 
 #[cfg(not(feature = "mistakes"))]

@@ -1,4 +1,4 @@
-//! The fourteen conditions of document 01 and the refusal that carries one.
+//! The conditions of documents 01 and 02 and the refusal that carries one.
 
 pub const CUT_SHORT: u8 = 1;
 pub const WRONG_FIELD: u8 = 2;
@@ -14,6 +14,7 @@ pub const OUTGROWN: u8 = 11;
 pub const BODIES_DIFFER: u8 = 12;
 pub const GROUPS_LEFT: u8 = 13;
 pub const SHORT_BUFFER: u8 = 14;
+pub const TOO_LONG_TO_COUNT: u8 = 15;
 
 /// The number of a condition and its place.
 #[derive(Clone, Copy, PartialEq, Eq, Debug)]

@@ -251,6 +251,8 @@ fn the_program() {
         run(&["print", "74"], &hex("00")),
         format!("0 0 73 20202074{}0aaa\n", "20".repeat(68))
     );
+    assert_eq!(run(&["count", "1"], &[]), "0 1 2 253\n");
+    assert_eq!(run(&["count", "8"], &[]), "15 0 0 0\n");
 }
 
 // ----------------------------------------------- the calls' own descriptions

@@ -13,6 +13,7 @@ mod raw {
         pub fn bijterne_write_type(s: *const u8, n: usize, out: *mut u8, m: usize, answer: *mut [u64; 3]) -> u32;
         pub fn bijterne_apply_step(s: *const u8, n: usize, kind: u8, place: u16, out: *mut u8, m: usize, answer: *mut [u64; 3]);
         pub fn bijterne_print_term(s: *const u8, n: usize, out: *mut u8, m: usize, answer: *mut [u64; 3]);
+        pub fn bijterne_count_strings(length: usize, answer: *mut [u64; 4]);
         pub fn bijterne_check(s: *const u8, n: usize, answer: *mut [u64; 4]);
     }
 }
@@ -34,6 +35,7 @@ pub mod number {
     pub const BODIES_DIFFER: u32 = 12;
     pub const GROUPS_LEFT: u32 = 13;
     pub const BUFFER_TOO_SHORT: u32 = 14;
+    pub const TOO_LONG_TO_COUNT: u32 = 15;
 }
 
 #[derive(Clone, Copy, Debug, PartialEq, Eq)]
@@ -61,6 +63,15 @@ pub struct Written {
     pub length: usize,
 }
 
+/// How many strings `examine_term` accepts, refuses with 3 and refuses with 5; 0 if the length is refused.
+#[derive(Clone, Copy, Debug, PartialEq, Eq)]
+pub struct CountAnswer {
+    pub number: u32,
+    pub accepted: u64,
+    pub refused_3: u64,
+    pub refused_5: u64,
+}
+
 #[derive(Clone, Copy, Debug, PartialEq, Eq)]
 pub struct CheckAnswer {
     pub number: u32,
@@ -76,6 +87,9 @@ pub const CHECK_STACK_BYTES: usize = 4 << 20;
 
 /// No page is longer: a buffer of this length is always enough for `print_term`.
 pub const LONGEST_PAGE: usize = 16644;
+
+/// The longest strings that `count_strings` counts.
+pub const LONGEST_COUNTED: usize = 7;
 
 /// Examines a bare term: conditions 3 to 6.
 pub fn examine_term(term: &[u8]) -> TermAnswer {
@@ -123,6 +137,15 @@ pub fn print_term(term: &[u8], out: &mut [u8]) -> Written {
 
 fn written(a: [u64; 3]) -> Written {
     Written { number: a[0] as u32, place: a[1] as usize, length: a[2] as usize }
+}
+
+/// Counts all byte strings of a length by what `examine_term` answers to them. The three counts add up to 256 to the power of
+/// the length: no other answer occurs.
+pub fn count_strings(length: usize) -> CountAnswer {
+    let mut a = [0; 4];
+    // SAFETY: the pointer is that of a live array.
+    unsafe { raw::bijterne_count_strings(length, &mut a) };
+    CountAnswer { number: a[0] as u32, accepted: a[1], refused_3: a[2], refused_5: a[3] }
 }
 
 /// Checks a file, on a thread of its own, so that the caller's stack is no matter. For many files a `Checker` starts its thread

@@ -1,4 +1,4 @@
--- What an answer's number says (document 01, 'Sorted by what stops a check'), each named once.
+-- What an answer's number says (document 01, 'Sorted by what stops a check'; from 15 on, the requests of document 02), each named once.
 -- Assumes nothing.
 use Prim.Native.Nat.{ℕ}
 
@@ -60,6 +60,10 @@ groupsLeft = 13
 -- buffer shorter than the result
 abbrev pub bufferTooShort : ℕ
 bufferTooShort = 14
+
+-- length over 7, of strings to be counted (request (c))
+abbrev pub tooLongToCount : ℕ
+tooLongToCount = 15
 
 -- of what stops no check
 abbrev pub never : ℕ

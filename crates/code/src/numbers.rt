@@ -1,4 +1,4 @@
-// The numbers of document 01, each named once: contracts have them in specs/Limits.antt and specs/Refusals.antt, C in
+// The numbers of document 01 and of the requests, each named once: contracts have them in specs/Limits.antt and specs/Refusals.antt, C in
 // wrapper/bijterne.h, Rust in wrapper/src/lib.rs. wrapper/check compares the four.
 
 // Condition 4: 'file over 65,535 .. bytes'.
@@ -43,6 +43,8 @@ pub const BODIES_DIFFER: u32 = 12;
 pub const GROUPS_LEFT: u32 = 13;
 
 pub const BUFFER_TOO_SHORT: u32 = 14;
+
+pub const TOO_LONG_TO_COUNT: u32 = 15;
 
 // Proved never to be an answer.
 pub const NEVER: u32 = 255;

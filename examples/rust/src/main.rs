@@ -1,6 +1,6 @@
 //! All calls on small inputs, one line for each, and a page. The C example prints the same lines.
 
-use bijterne::{apply_step, check, examine_file, examine_term, print_term, write_type};
+use bijterne::{apply_step, check, count_strings, examine_file, examine_term, print_term, write_type};
 use bijterne::{CheckAnswer, Checker, Written, LONGEST_PAGE};
 use std::thread;
 
@@ -59,6 +59,11 @@ fn show_page(what: &str, term: &[u8], length: usize) {
     print!("{what}: {}\n{}", numbers(a), String::from_utf8_lossy(&out[..a.length]));
 }
 
+fn show_count(what: &str, length: usize) {
+    let a = count_strings(length);
+    println!("{what}: {} {} {} {}", a.number, a.accepted, a.refused_3, a.refused_5);
+}
+
 /// The file of a term of abstractors, each inside the one before.
 fn deep(depth: usize) -> Vec<u8> {
     let n = 2 * depth + 1;
@@ -96,6 +101,9 @@ fn main() {
 
     show_page("print", TERM, LONGEST_PAGE);
     show_page("print into 72 bytes", TERM, 72);
+
+    show_count("count strings of 3 bytes", 3);
+    show_count("count strings of 8 bytes", 8);
 
     let a = examine_file(CUT_SHORT);
     println!("examine a file cut short: {} {} {}", a.number, a.place, a.term.len());

@@ -1,17 +1,19 @@
 //! Without arguments: checks standard input and prints the four numbers.
-//! Otherwise answers another call on standard input:
+//! Otherwise answers another call, all but the last on standard input:
 //!
 //!   term               number place degree
 //!   file               number place start end
 //!   type N             number place length BUFFER, or none BUFFER
 //!   step KIND PLACE N  number place length BUFFER
 //!   print N            number place length BUFFER
+//!   count LENGTH       number accepted refused-3 refused-5
 //!
 //! N is the buffer's length; it is filled with aa first and printed whole in
 //! hexadecimal.
 
 use reference::{
-    apply_step, check, examine_file, examine_term, print_term, write_type, StepAnswer, TypeAnswer,
+    apply_step, check, count_strings, examine_file, examine_term, print_term, write_type,
+    StepAnswer, TypeAnswer,
 };
 use std::io::Read;
 use std::process::ExitCode;
@@ -20,9 +22,11 @@ fn main() -> ExitCode {
     let arguments: Vec<String> = std::env::args().skip(1).collect();
     let arguments: Vec<&str> = arguments.iter().map(String::as_str).collect();
     let mut input = Vec::new();
-    if let Err(error) = std::io::stdin().lock().read_to_end(&mut input) {
-        eprintln!("reference: standard input: {error}");
-        return ExitCode::FAILURE;
+    if arguments.first() != Some(&"count") {
+        if let Err(error) = std::io::stdin().lock().read_to_end(&mut input) {
+            eprintln!("reference: standard input: {error}");
+            return ExitCode::FAILURE;
+        }
     }
     match answer(&arguments, &input) {
         Some(line) => {
@@ -33,6 +37,7 @@ fn main() -> ExitCode {
             eprintln!(
                 "usage: reference [term | file | type N | step KIND PLACE N | print N] < input"
             );
+            eprintln!("       reference count LENGTH");
             ExitCode::FAILURE
         }
     }
@@ -75,6 +80,13 @@ fn answer(arguments: &[&str], input: &[u8]) -> Option<String> {
             let mut buffer = vec![0xaa; length.parse().ok()?];
             let a = print_term(input, &mut buffer);
             Some(with_buffer(step_answer(a), &buffer))
+        }
+        ["count", length] => {
+            let a = count_strings(length.parse().ok()?);
+            Some(format!(
+                "{} {} {} {}",
+                a.number, a.accepted, a.refused_3, a.refused_5
+            ))
         }
         _ => None,
     }

@@ -72,6 +72,12 @@ pub fn printed(term: &[u8], length: usize) -> ((u8, usize, usize), Vec<u8>) {
     ((a.number, a.place, a.len), buffer)
 }
 
+/// Number, accepted, refused 3, refused 5.
+pub fn counted(length: usize) -> (u8, u64, u64, u64) {
+    let a = count_strings(length);
+    (a.number, a.accepted, a.refused_3, a.refused_5)
+}
+
 /// The result with aa after it up to the length.
 pub fn padded(result: &str, length: usize) -> Vec<u8> {
     let mut bytes = hex(result);
