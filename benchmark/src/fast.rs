@@ -1118,11 +1118,11 @@ const MAX_WAGONS: usize = MAX_COUNTED / 2;
 #[inline(never)]
 pub fn count_strings(length: usize) -> CountAnswer {
     if length > MAX_COUNTED {
-        return CountAnswer { number: 15, accepted: 0, refused_3: 0, refused_5: 0 };
+        return CountAnswer { number: 15, accepted: 0, malformed: 0, unbound: 0 };
     }
     let strings = 1 << (8 * length);
     if length % 2 == 0 {
-        return CountAnswer { number: 0, accepted: 0, refused_3: strings, refused_5: 0 };
+        return CountAnswer { number: 0, accepted: 0, malformed: strings, unbound: 0 };
     }
     let wagons = length / 2;
     // terms[n]: those of n wagons, with any indices. closed[n][depth]: of these, those with no index beyond its scope where the
@@ -1140,5 +1140,5 @@ pub fn count_strings(length: usize) -> CountAnswer {
         }
     }
     let (terms, accepted) = (terms[wagons], closed[wagons][0]);
-    CountAnswer { number: 0, accepted, refused_3: strings - terms, refused_5: terms - accepted }
+    CountAnswer { number: 0, accepted, malformed: strings - terms, unbound: terms - accepted }
 }

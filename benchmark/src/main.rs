@@ -2,8 +2,8 @@
 //!
 //!     benchmark                            every input: the answers of all three implementations, then the times
 //!     benchmark quick                      the same without the reference's answers, which take a minute
-//!     benchmark agree SEED COUNT           fast and proved against the reference on generated files and bare terms, and
-//!                                          against each other in every count
+//!     benchmark agree SEED COUNT           fast and proved against the reference on generated files and bare terms, and in
+//!                                          every count
 //!     benchmark wrapper                    the three ways to check a file from Rust
 //!     benchmark one NAME proved|fast [N]   one input alone, N times, for a profiler
 
@@ -72,12 +72,13 @@ fn answer(call: Call, which: usize, bytes: &[u8], space: &mut Space, buffer: &mu
             [number as usize, place, length, 0]
         }
         Call::Count => {
-            let CountAnswer { number, accepted, refused_3, refused_5 } = match which {
+            let CountAnswer { number, accepted, malformed, unbound } = match which {
                 PROVED => bijterne::count_strings(bytes.len()),
-                // Without buffers, and the reference is not asked.
+                REFERENCE => reference_counts(bytes.len()),
+                // Without buffers.
                 _ => fast::count_strings(bytes.len()),
             };
-            [u64::from(number), accepted, refused_3, refused_5].map(|value| value as usize)
+            [u64::from(number), accepted, malformed, unbound].map(|value| value as usize)
         }
     }
 }
@@ -94,6 +95,11 @@ fn reference_check(file: &[u8]) -> Answer {
 fn reference_page(term: &[u8], buffer: &mut [u8]) -> Written {
     let a = reference::print_term(term, buffer);
     Written { number: a.number.into(), place: a.place, length: a.len }
+}
+
+fn reference_counts(length: usize) -> CountAnswer {
+    let a = reference::count_strings(length);
+    CountAnswer { number: a.number.into(), accepted: a.accepted, malformed: a.refused_3, unbound: a.refused_5 }
 }
 
 /// On the caller's stack, which `main` makes large.

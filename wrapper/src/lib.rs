@@ -63,13 +63,14 @@ pub struct Written {
     pub length: usize,
 }
 
-/// How many strings `examine_term` accepts, refuses with 3 and refuses with 5; 0 if the length is refused.
+/// How many strings `examine_term` accepts, refuses with 3 (malformed: not exactly one term) and refuses with 5 (unbound: a term
+/// with an index beyond its scope); 0 if the length is refused.
 #[derive(Clone, Copy, Debug, PartialEq, Eq)]
 pub struct CountAnswer {
     pub number: u32,
     pub accepted: u64,
-    pub refused_3: u64,
-    pub refused_5: u64,
+    pub malformed: u64,
+    pub unbound: u64,
 }
 
 #[derive(Clone, Copy, Debug, PartialEq, Eq)]
@@ -145,7 +146,7 @@ pub fn count_strings(length: usize) -> CountAnswer {
     let mut a = [0; 4];
     // SAFETY: the pointer is that of a live array.
     unsafe { raw::bijterne_count_strings(length, &mut a) };
-    CountAnswer { number: a[0] as u32, accepted: a[1], refused_3: a[2], refused_5: a[3] }
+    CountAnswer { number: a[0] as u32, accepted: a[1], malformed: a[2], unbound: a[3] }
 }
 
 /// Checks a file, on a thread of its own, so that the caller's stack is no matter. For many files a `Checker` starts its thread

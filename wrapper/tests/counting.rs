@@ -2,8 +2,8 @@
 
 use bijterne::{count_strings, examine_term, CountAnswer, LONGEST_COUNTED};
 
-fn counted(accepted: u64, refused_3: u64, refused_5: u64) -> CountAnswer {
-    CountAnswer { number: 0, accepted, refused_3, refused_5 }
+fn counted(accepted: u64, malformed: u64, unbound: u64) -> CountAnswer {
+    CountAnswer { number: 0, accepted, malformed, unbound }
 }
 
 #[test]
@@ -16,15 +16,15 @@ fn written_counts() {
 #[test]
 fn every_string_is_counted() {
     for length in 0..=LONGEST_COUNTED {
-        let CountAnswer { number, accepted, refused_3, refused_5 } = count_strings(length);
-        assert_eq!((number, accepted + refused_3 + refused_5), (0, 256_u64.pow(length as u32)));
+        let CountAnswer { number, accepted, malformed, unbound } = count_strings(length);
+        assert_eq!((number, accepted + malformed + unbound), (0, 256_u64.pow(length as u32)));
     }
 }
 
 #[test]
 fn a_length_over_the_longest_is_refused() {
     for length in [8, 9, 256, 1 << 32, usize::MAX] {
-        assert_eq!(count_strings(length), CountAnswer { number: 15, accepted: 0, refused_3: 0, refused_5: 0 });
+        assert_eq!(count_strings(length), CountAnswer { number: 15, accepted: 0, malformed: 0, unbound: 0 });
     }
 }
 
@@ -37,8 +37,8 @@ fn examined(length: usize, bytes: &[(u8, u64)]) -> CountAnswer {
         let strings = many.iter().product::<u64>();
         match examine_term(&string).number {
             0 => counts.accepted += strings,
-            3 => counts.refused_3 += strings,
-            5 => counts.refused_5 += strings,
+            3 => counts.malformed += strings,
+            5 => counts.unbound += strings,
             other => panic!("{string:02x?} is refused with {other}"),
         }
     }

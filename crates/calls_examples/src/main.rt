@@ -80,6 +80,16 @@ fn print_term(s: &[u8]) {
     }
 }
 
+fn count_strings(length: usize) {
+    let r = counting::count_strings(length);
+    io::write_all(1, b"count strings:");
+    number(r.number as usize);
+    number(r.accepted as usize);
+    number(r.malformed as usize);
+    number(r.unbound as usize);
+    io::write_all(1, b"\n");
+}
+
 fn check(s: &[u8]) {
     let r = checker::check(s);
     io::write_all(1, b"check a file:");
@@ -101,5 +111,7 @@ fn main() {
     apply_step(b"\xff\x00\xfe\x01\xff\x01\x01", 3, 2);
     print_term(b"\xff\x00\xff\x01\xfe\x01\xff\x02\x01");
     print_term(b"\x01");
+    count_strings(3);
+    count_strings(8);
     check(b"\x01\x00\x09\xff\x00\xff\x01\xfe\x01\xff\x02\x01\x02\x00\x00\x03\x00\x00");
 }

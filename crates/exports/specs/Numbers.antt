@@ -8,6 +8,7 @@ use Rattle.examine.specs.declared.TermAnswer.{TermAnswer}
 use Rattle.files.specs.File.{FileAnswer}
 use Rattle.files.specs.Check.{CheckAnswer}
 use Rattle.calls.specs.Answers.{Written, nothing, answer}
+use Rattle.counting.specs.declared.CountAnswer.{CountAnswer}
 
 abbrev pub termNumbers : TermAnswer → List ℕ
 termNumbers a = a .number ∷ a .place ∷ a .degree ∷ []
@@ -18,6 +19,9 @@ fileNumbers a = a .number ∷ a .place ∷ length (a .part) ∷ []
 
 abbrev pub checkNumbers : CheckAnswer → List ℕ
 checkNumbers a = a .number ∷ a .place ∷ a .comparisons ∷ a .degree ∷ []
+
+abbrev pub countNumbers : CountAnswer → List ℕ
+countNumbers a = a .number ∷ a .accepted ∷ a .malformed ∷ a .unbound ∷ []
 
 -- 1 for 'none'.
 abbrev pub noneOf : Written → ℕ

@@ -6,7 +6,8 @@ ghost use Rattle.files.specs.File.{fileAnswer};
 ghost use Rattle.files.specs.Check.{checkFile};
 ghost use Rattle.calls.specs.Answers.{typeAnswer, stepAnswer};
 ghost use Rattle.printing.specs.Page.{printAnswer};
-ghost use Rattle.exports.specs.Numbers.{termNumbers, fileNumbers, checkNumbers, noneOf, Given};
+ghost use Rattle.counting.specs.Counts.{countAnswer};
+ghost use Rattle.exports.specs.Numbers.{termNumbers, fileNumbers, checkNumbers, countNumbers, noneOf, Given};
 
 // Number, place, degree.
 #[no_mangle]
@@ -75,6 +76,19 @@ pub extern "C" fn bijterne_print_term(s: &[u8], out: &mut [u8], answer: &mut [u6
     let place = a.place;
     let length = a.length;
     *answer = [number as u64, place as u64, length as u64];
+}
+
+// Number, and how many strings are accepted, refused with 3 and refused with 5.
+#[no_mangle]
+pub extern "C" fn bijterne_count_strings(length: usize, answer: &mut [u64; 4])
+    ensures { λ r. ⌜ now (answer .exit) ≡ countNumbers (countAnswer length) ⌝ }
+{
+    let a = counting::count_strings(length);
+    let number = a.number;
+    let accepted = a.accepted;
+    let malformed = a.malformed;
+    let unbound = a.unbound;
+    *answer = [number as u64, accepted, malformed, unbound];
 }
 
 // Number, place, comparisons completed, degree.

@@ -61,7 +61,7 @@ fn show_page(what: &str, term: &[u8], length: usize) {
 
 fn show_count(what: &str, length: usize) {
     let a = count_strings(length);
-    println!("{what}: {} {} {} {}", a.number, a.accepted, a.refused_3, a.refused_5);
+    println!("{what}: {} {} {} {}", a.number, a.accepted, a.malformed, a.unbound);
 }
 
 /// The file of a term of abstractors, each inside the one before.

@@ -19,7 +19,8 @@ strings-of-requires : tie.Need-strings-of-requires
 strings-of-requires c κs = search needs
 
 sub-t6 : tie.Need-sub-t6
-sub-t6 c = omega (arith, c .before .terms-in2 .ensures, c .strings-of .ensures, malformed-counted (c .before .before .before .before .args .length) (omega arith))
+sub-t6 c =
+    omega (arith, c .before .before .terms-in .ensures, c .before .terms-in2 .ensures, c .strings-of .ensures, unbound-counted (c .before .before .before .before .args .length) (omega arith), malformed-counted (c .before .before .before .before .args .length) (omega arith))
 
 sub-t7 : tie.Need-sub-t7
 sub-t7 c = omega (arith, c .before .before .terms-in .ensures, c .before .terms-in2 .ensures, unbound-counted (c .before .before .before .before .args .length) (omega arith))

@@ -47,23 +47,17 @@ returns-2 c = search needs
 array-share-prefix-page : tie.Need-array-share-prefix-page
 array-share-prefix-page c = omega (arith, within-buffer _ _ (c .before .before .print-term .ensures))
 
-slice-aggregate-write-all : tie.Need-slice-aggregate-write-all
-slice-aggregate-write-all c = sym (length-take-le _ _ (omega (arith, within-buffer _ _ (c .before .before .before .print-term .ensures))))
+slice-aggregate-put : tie.Need-slice-aggregate-put
+slice-aggregate-put c = sym (length-take-le _ _ (omega (arith, within-buffer _ _ (c .before .before .before .print-term .ensures))))
 
-write-all-requires : tie.Need-write-all-requires
-write-all-requires c κs = search needs
+slice-aggregate-put-2 : tie.Need-slice-aggregate-put-2
+slice-aggregate-put-2 c = search needs
 
-slice-aggregate-fail-2 : tie.Need-slice-aggregate-fail-2
-slice-aggregate-fail-2 c = search needs
-
-fail-requires-2 : tie.Need-fail-requires-2
-fail-requires-2 c κs = search needs
+put-requires : tie.Need-put-requires
+put-requires c κs = search needs
 
 returns-3 : tie.Need-returns-3
 returns-3 c = search needs
-
-returns-4 : tie.Need-returns-4
-returns-4 c = search needs
 
 pub page-run-spec : {M : Type 1} → statement M
 page-run-spec =
@@ -82,9 +76,7 @@ page-run-spec =
     write-refusal-requires
     returns-2
     array-share-prefix-page
-    slice-aggregate-write-all
-    write-all-requires
-    slice-aggregate-fail-2
-    fail-requires-2
-    returns-3
-    returns-4)
+    slice-aggregate-put
+    slice-aggregate-put-2
+    put-requires
+    returns-3)
