@@ -192,7 +192,7 @@ module _ (s : List ℕ) (w : Bytes s) (l : length s ≤ longestTerm) where
       by-fault (o .term) (o .decodes) z (not-deep 0 0 (o .term) (omega (arith, z))) refl
   by-term m false e =
       let n : (t : Term) → decode s ≡ some t → ⊥ =
-          λ t q. let u = sym e ∙ decodes-holds 253 s t w q (coded-closed 253 (omega arith) (encode-decode s t w q .coded)) in let v : _≡_ {A = ℕ} 0 1 = cc in omega arith in
+      λ t q. let u = sym e ∙ decodes-holds 253 s t w q (coded-closed 253 (omega arith) (encode-decode s t w q .coded)) in let v : _≡_ {A = ℕ} 0 1 = cc in omega arith in
       refuses-3 (malformed n) (not-true (holds s (0 ∷ [])) (λ y. let o = holds-decodes 0 s y in n (o .term) (o .decodes))) e
 
 -- No term of so few bytes has more than 253 abstractors in scope.

@@ -83,7 +83,7 @@ counting-holds =
     record {
       occurring = λ s w l. occurring (answered-by s w (omega arith));
       no-others =
-        λ n number l h.
+          λ n number l h.
           count-no-others n (λ s. eqb (oneByteNumber s) number) (λ s w e. ne-eqb (oneByteNumber s) number (λ q. h (rw q at (occurring (answered-by s w (omega arith))))));
       adds-up = λ n l. rw (answer-is n l) (omega (arith, closed-counted n l, unbound-counted n l, malformed-counted n l));
     }

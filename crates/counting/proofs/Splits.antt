@@ -95,8 +95,8 @@ joined zero (d ∷ ds) es = some-in-none d (ds ++ es) ∙ sym (omega (arith, ap 
 joined (suc n) [] es =
     let z = sum-none (suc n) {f = λ i. holding (suc i) [] * holding (suc n - suc i) es} (λ i l. ap (λ (k : ℕ). k * holding (suc n - suc i) es) (none-in-some i) ∙ zero-mul (holding (suc n - suc i) es)) in
     sym
-        (sum-first (suc n) (λ i. holding i [] * holding (suc n - i) es)
-        ∙ omega (arith, z, ap (λ (k : ℕ). k * holding (suc n - 0) es) none-in-none, one-mul (holding (suc n - 0) es), ap (λ (k : ℕ). holding k es) (sub-zero (suc n))))
+    (sum-first (suc n) (λ i. holding i [] * holding (suc n - i) es)
+    ∙ omega (arith, z, ap (λ (k : ℕ). k * holding (suc n - 0) es) none-in-none, one-mul (holding (suc n - 0) es), ap (λ (k : ℕ). holding k es) (sub-zero (suc n))))
 joined (suc n) (d ∷ ds) es =
     let t = terminalsIn d in
     let g : ℕ → ℕ = λ i. holding (n - i) es in
@@ -104,17 +104,17 @@ joined (suc n) (d ∷ ds) es =
     let b : ℕ → ℕ = λ i. holding i (d ∷ d ∷ ds) * g i in
     let c : ℕ → ℕ = λ i. holding i (d ∷ suc d ∷ ds) * g i in
     let each : (i : ℕ) → i < suc n → holding (suc i) (d ∷ ds) * holding (suc n - suc i) es ≡ t * a i + (b i + c i) =
-        λ i l.
-          ap₂ (λ (x y : ℕ). x * holding y es) (one-more i d ds) (suc-sub-suc n i)
-          ∙ each-product t (holding i ds) (holding i (d ∷ d ∷ ds)) (holding i (d ∷ suc d ∷ ds)) (g i) in
+    λ i l.
+    ap₂ (λ (x y : ℕ). x * holding y es) (one-more i d ds) (suc-sub-suc n i)
+    ∙ each-product t (holding i ds) (holding i (d ∷ d ∷ ds)) (holding i (d ∷ suc d ∷ ds)) (g i) in
     one-more n d (ds ++ es)
     ∙ ap₂ _+_ (ap (λ (k : ℕ). t * k) (joined n ds es)) (ap₂ _+_ (joined n (d ∷ d ∷ ds) es) (joined n (d ∷ suc d ∷ ds) es))
     ∙ sym
-        (sum-first (suc n) (λ i. holding i (d ∷ ds) * holding (suc n - i) es)
-        ∙ ap₂ _+_ (ap (λ (k : ℕ). k * holding (suc n - 0) es) (some-in-none d ds) ∙ zero-mul (holding (suc n - 0) es)) (sum-ext (suc n) each)
-        ∙ zero-add (sumBelow (suc n) (λ i. t * a i + (b i + c i)))
-        ∙ sum-add (suc n) (λ i. t * a i) (λ i. b i + c i)
-        ∙ ap₂ _+_ (sum-times (suc n) t a) (sum-add (suc n) b c))
+    (sum-first (suc n) (λ i. holding i (d ∷ ds) * holding (suc n - i) es)
+    ∙ ap₂ _+_ (ap (λ (k : ℕ). k * holding (suc n - 0) es) (some-in-none d ds) ∙ zero-mul (holding (suc n - 0) es)) (sum-ext (suc n) each)
+    ∙ zero-add (sumBelow (suc n) (λ i. t * a i + (b i + c i)))
+    ∙ sum-add (suc n) (λ i. t * a i) (λ i. b i + c i)
+    ∙ ap₂ _+_ (sum-times (suc n) t a) (sum-add (suc n) b c))
 
 -- ---- One term.
 -- The terms whose first part has fewer than k bytes, where the parts have `rest` in all.

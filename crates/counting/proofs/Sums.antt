@@ -128,7 +128,7 @@ count-once [] p w e h = rw e
 count-once (a ∷ s) p w e h =
     let here = count-once s (λ t. p (a ∷ t)) (λ i. w (suc i)) e (λ t q. tail-eq-of-cons-eq (h (a ∷ t) q)) in
     let elsewhere : (b : ℕ) → (b ≡ a → ⊥) → count (λ t. p (b ∷ t)) (strings (length s)) ≡ 0 =
-        λ b n. count-no-others (length s) (λ t. p (b ∷ t)) (λ t v m. not-true (p (b ∷ t)) (λ q. n (head-eq-of-cons-eq (h (b ∷ t) q)))) in
+    λ b n. count-no-others (length s) (λ t. p (b ∷ t)) (λ t v m. not-true (p (b ∷ t)) (λ q. n (head-eq-of-cons-eq (h (b ∷ t) q)))) in
     count-suc p (length s) ∙ sum-one 256 a (w 0) here elsewhere
 
 count-all : (ss : List (List ℕ)) → count (λ s. true) ss ≡ length ss
