@@ -13,12 +13,12 @@ use Rattle.calculus.specs.Terms.{Term, tau, var, app, abs, size, Closed, closed
 use Rattle.code.specs.Limits.{longestTerm, mostAbstractors}
 use Rattle.code.specs.Code.{Symbol, symbol, symbol-tau, symbol-var, symbol-app, symbol-abs, Bytes, encode, Coded, coded-tau, coded-var, coded-app, coded-abs, takeTwo, readByte, terms, decode, termEnd}
 use Rattle.code.specs.Scope.{scope}
-use Rattle.code.proofs.RoundTrip.{Is, is, is-tau, is-var, is-app, is-abs, symbol-index, length-encode, encode-decode}
+use Rattle.code.proofs.RoundTrip.{Is, is, is-var, symbol-index, length-encode, encode-decode}
 use Rattle.code.proofs.FirstZero.{whole}
-use Rattle.examine.specs.Inspect.{Fault, no-fault, beyond, deep, leftmost, indexFault, scopeFault, inspect, Examined, judged, examined, termAnswerOf, termAnswer}
+use Rattle.examine.specs.Inspect.{Fault, no-fault, beyond, leftmost, indexFault, inspect, Examined, judged, examined, termAnswerOf, termAnswer}
 use Rattle.examine.specs.OneByte.{oneByteNumber}
 use Rattle.examine.proofs.Laws.{faultless, examined-endless, examined-past, examined-whole}
-use Rattle.counting.specs.Contracts.{isEmpty, holdsAfter, holds}
+use Rattle.counting.specs.Contracts.{holdsAfter, holds}
 use Rattle.counting.proofs.Sums.{not-true}
 
 -- ---- Bytes of terms hold them.

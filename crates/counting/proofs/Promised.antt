@@ -1,17 +1,16 @@
 -- The counts by the recurrence are those of the definition, and the promises.
 -- Assumes nothing.
-use Prim.Native.Nat.{ℕ, zero, suc, _+_, _-_, _*_, _^_, _≤_, _<_, min}
+use Prim.Native.Nat.{ℕ, zero, suc, _+_, _-_, _*_, _^_, _≤_, _<_}
 use mathlib.Core.Path.{_≡_, refl, ap, ap₂, sym, _∙_}
-use mathlib.Core.Bool.{Bool, true, false, cond}
+use mathlib.Core.Bool.{true, cond}
 use mathlib.Core.List.{List, [], _∷_}
 use native.Mathlib.Omega.{arith}
-use lib.Dec.{eqb, leb}
+use lib.Dec.{eqb}
 use lib.ListN.{length}
 use borrow.Author.Tests.{le-leb, lt-leb, ne-eqb}
 use Rattle.code.specs.Code.{Bytes}
 use Rattle.examine.specs.OneByte.{oneByteNumber}
-use Rattle.counting.specs.declared.CountAnswer.{CountAnswer}
-use Rattle.counting.specs.Counts.{longestCounted, strings, count, answered, countAnswer}
+use Rattle.counting.specs.Counts.{longestCounted, answered, countAnswer}
 use Rattle.counting.specs.Contracts.{holds, holding, termsIn, terminalsIn}
 use Rattle.counting.specs.Claims.{Listing, Occurs, occurs-accepted, occurs-3, occurs-5, Counting}
 use Rattle.counting.specs.Examples.{line, Examples}

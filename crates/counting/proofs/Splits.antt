@@ -11,10 +11,10 @@ use lib.Dec.{leb, leb·zero}
 use lib.ListN.{length}
 use lib.Pow.{pow-add}
 use borrow.Author.Tests.{leb-true, leb-false}
-use Rattle.code.specs.Code.{Symbol, symbol, symbol-tau, symbol-var, symbol-app, symbol-abs, Bytes}
+use Rattle.code.specs.Code.{Symbol, symbol, symbol-tau, symbol-var, symbol-app, symbol-abs}
 use Rattle.code.proofs.RoundTrip.{symbol-index}
 use Rattle.counting.specs.Counts.{strings, count}
-use Rattle.counting.specs.Contracts.{isEmpty, holdsAfter, holds, holding, termsIn, terminalsIn}
+use Rattle.counting.specs.Contracts.{holdsAfter, holds, holding, termsIn, terminalsIn}
 use Rattle.counting.proofs.Sums.{sumBelow, sum-ext, sum-none, sum-add, sum-times, sum-first, sum-last-two, count-suc, count-ext, count-none, count-le, length-strings}
 
 -- ---- No byte, or one more.

@@ -33,6 +33,10 @@ holding n ds = count (λ s. holds s ds) (strings n)
 abbrev pub termsIn : ℕ → ℕ → ℕ
 termsIn n d = holding n (d ∷ [])
 
--- The terminals that may stand in d scopes.
+-- The greatest index of the one-byte code: in so many scopes every index may stand.
+abbrev pub greatestIndex : ℕ
+greatestIndex = 253
+
+-- How many terminals may stand in d scopes: τ, and the indices up to d.
 abbrev pub terminalsIn : ℕ → ℕ
-terminalsIn d = min (suc d) 254
+terminalsIn d = min (suc d) (suc greatestIndex)

@@ -2,7 +2,7 @@
 -- with an answer are counted. The list is never computed.
 -- Assumes nothing.
 use Prim.Native.Nat.{ℕ, zero, suc, _+_}
-use mathlib.Core.Bool.{Bool, true, false, cond}
+use mathlib.Core.Bool.{Bool, cond}
 use mathlib.Core.List.{List, [], _∷_, map, flatMap}
 use lib.Dec.{eqb, leb}
 use Rattle.code.specs.Refusals.{notOneTerm, beyondScope, tooLongToCount}

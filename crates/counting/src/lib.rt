@@ -4,7 +4,7 @@
 ghost use mathlib.Core.Path.{_≡_};
 ghost use Prim.Native.Nat.{_+_, _^_, _≤_};
 ghost use Rattle.counting.specs.Counts.{longestCounted, countAnswer};
-ghost use Rattle.counting.specs.Contracts.{terminalsIn, termsIn};
+ghost use Rattle.counting.specs.Contracts.{greatestIndex, terminalsIn, termsIn};
 ghost use Rattle.counting.specs.Claims.{Listing, Counting};
 ghost use Rattle.counting.specs.Examples.{Examples};
 use code::numbers::ACCEPTED;
@@ -38,7 +38,7 @@ fn terminals_in(d: u64) -> u64
 // How many strings of length n are one term that may stand in d scopes: a terminal; or fe or ff, a first term, and a second in the
 // rest, which after ff stands in one scope more.
 fn terms_in(n: usize, d: u64) -> u64
-    requires { ⌜ (n ≤ longestCounted) × (d + n ≤ 260) ⌝ }
+    requires { ⌜ (n ≤ longestCounted) × (d + n ≤ greatestIndex + longestCounted) ⌝ }
     ensures { λ r. ⌜ r ≡ termsIn n d ⌝ }
 {
     if n == 0 {

@@ -5,7 +5,6 @@
 use Prim.Native.Nat.{ℕ}
 use mathlib.Core.List.{List}
 use Rattle.examine.specs.Inspect.{termAnswer}
-use Rattle.examine.specs.declared.TermAnswer.{TermAnswer}
 
 -- The number that a string is answered with.
 abbrev pub oneByteNumber : List ℕ → ℕ
