@@ -1111,10 +1111,10 @@ fn write_line(bytes: &[u8], line: &mut [u8]) {
 
 const MAX_COUNTED: usize = 7;
 
-/// A term of 2n + 1 bytes has n wagons, those inside others too.
-const MAX_WAGONS: usize = MAX_COUNTED / 2;
+/// A term of 2n + 1 bytes has n applicators and abstractors, those inside others too: its items.
+const MAX_ITEMS: usize = MAX_COUNTED / 2;
 
-/// Counts the strings of a length. A term with wagons is the first of them, with a term inside, and then a term.
+/// Counts the strings of a length. A term with items is the first of them, with a term inside, and then a term.
 #[inline(never)]
 pub fn count_strings(length: usize) -> CountAnswer {
     if length > MAX_COUNTED {
@@ -1124,21 +1124,21 @@ pub fn count_strings(length: usize) -> CountAnswer {
     if length % 2 == 0 {
         return CountAnswer { number: 0, accepted: 0, malformed: strings, unbound: 0 };
     }
-    let wagons = length / 2;
-    // terms[n]: those of n wagons, with any indices. closed[n][depth]: of these, those with no index beyond its scope where the
+    let items = length / 2;
+    // terms[n]: those of n items, with any indices. closed[n][depth]: of these, those with no index beyond its scope where the
     // term stands in the scope of `depth` abstractors.
-    let mut terms = [0; MAX_WAGONS + 1];
-    let mut closed = [[0; MAX_WAGONS + 1]; MAX_WAGONS + 1];
+    let mut terms = [0; MAX_ITEMS + 1];
+    let mut closed = [[0; MAX_ITEMS + 1]; MAX_ITEMS + 1];
     terms[0] = APPLICATOR.into();
     closed[0] = std::array::from_fn(|depth| 1 + depth as u64);
-    for n in 1..=wagons {
+    for n in 1..=items {
         for (inside, rest) in (0..n).map(|inside| (inside, n - 1 - inside)) {
             terms[n] += 2 * terms[inside] * terms[rest];
-            for depth in 0..=wagons - n {
+            for depth in 0..=items - n {
                 closed[n][depth] += closed[inside][depth] * (closed[rest][depth] + closed[rest][depth + 1]);
             }
         }
     }
-    let (terms, accepted) = (terms[wagons], closed[wagons][0]);
+    let (terms, accepted) = (terms[items], closed[items][0]);
     CountAnswer { number: 0, accepted, malformed: strings - terms, unbound: terms - accepted }
 }

@@ -131,7 +131,7 @@ pub splits-start : (d rest : ℕ) → splits d rest 1 ≡ 0
 unfolding splits sumBelow
 splits-start d rest = omega (arith, ap (λ (k : ℕ). k * (termsIn (rest - 0) d + termsIn (rest - 0) (suc d))) (no-term d), zero-mul (termsIn (rest - 0) d + termsIn (rest - 0) (suc d)))
 
-pub splits-next : (d rest k : ℕ) → splits d rest (suc k) ≡ termsIn k d * (termsIn (rest - k) d + termsIn (rest - k) (suc d)) + splits d rest k
+splits-next : (d rest k : ℕ) → splits d rest (suc k) ≡ termsIn k d * (termsIn (rest - k) d + termsIn (rest - k) (suc d)) + splits d rest k
 unfolding splits sumBelow
 splits-next d rest k = refl
 
@@ -155,7 +155,7 @@ splits-end d rest =
     ∙ splits-last d n
 
 -- ---- Within 64 bits.
-pub terms-le : (n d : ℕ) → termsIn n d ≤ 256 ^ n
+terms-le : (n d : ℕ) → termsIn n d ≤ 256 ^ n
 unfolding holding
 terms-le n d = omega (arith, count-le (λ s. holds s (d ∷ [])) (strings n), length-strings n)
 

@@ -28,7 +28,7 @@ unfolding sumBelow
 sum-none zero h = refl
 sum-none (suc n) h = omega (arith, h n (omega arith), sum-none n (λ i l. h i (omega arith)))
 
-pub sum-same : (n c : ℕ) → sumBelow n (λ i. c) ≡ n * c
+sum-same : (n c : ℕ) → sumBelow n (λ i. c) ≡ n * c
 unfolding sumBelow
 sum-same zero c = sym (zero-mul c)
 sum-same (suc n) c = omega (arith, sum-same n c, suc-mul n c)
@@ -52,7 +52,7 @@ pub sum-last-two : (n : ℕ) (f : ℕ → ℕ) → sumBelow (suc (suc n)) f ≡ 
 unfolding sumBelow
 sum-last-two n f = refl
 
-pub sum-one : (n a : ℕ) {f : ℕ → ℕ} → a < n → f a ≡ 1 → ((i : ℕ) → (i ≡ a → ⊥) → f i ≡ 0) → sumBelow n f ≡ 1
+sum-one : (n a : ℕ) {f : ℕ → ℕ} → a < n → f a ≡ 1 → ((i : ℕ) → (i ≡ a → ⊥) → f i ≡ 0) → sumBelow n f ≡ 1
 unfolding sumBelow
 sum-one zero a l e h = absurd (omega arith)
 sum-one (suc n) a {f} l e h = go (eqb n a) refl (λ m. sum-one n a {f = f} m e h)
