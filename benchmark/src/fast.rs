@@ -678,7 +678,7 @@ impl<'a, const COUNT: bool> Walk<'a, COUNT> {
             return Err(10);
         }
         let k = found.mate + 1;
-        let size = found.at - k;
+        let size = found.next - k;
         let length = n - 1 + size;
         if length > MAX_TERM {
             return Err(11);
@@ -686,7 +686,7 @@ impl<'a, const COUNT: bool> Walk<'a, COUNT> {
         if size > 1 {
             body.copy_within(place + 1..n, place + size);
         }
-        let scope = copy_lifted(body, k, place, index, self.scopes);
+        let scope = copy_lifted(body, k, place, index + found.between, self.scopes);
         if inside + scope > MAX_SCOPE {
             return Err(11);
         }
@@ -700,16 +700,23 @@ struct Found {
     depth: usize,
     /// The one that the index means.
     at: usize,
-    /// The applicator directly before it, or `at` if there is none.
+    /// The applicator of its train that it is matched with, or `at` if there is none.
     mate: usize,
+    /// What follows the applicator in that train.
+    next: usize,
+    /// How many abstractors of that train stand between the two.
+    between: usize,
 }
 
 /// Reads leftward from `place`, counting the complete terms that stand before what was read.
 #[inline(never)]
 fn find(body: &[u8; MAX_TERM], place: usize, index: usize) -> Found {
-    let mut found = Found { depth: 0, at: 0, mate: 0 };
+    let mut found = Found { depth: 0, at: 0, mate: 0, next: 0, between: 0 };
     let mut complete = 0;
+    // Whether what is read stands before the abstractor in its train and the applicator is still to come, and how many
+    // abstractors were read since that no applicator matches.
     let mut near = false;
+    let mut open = 0;
     let mut i = place;
     while i > 0 {
         if complete > BLOCK + 1 && i >= BLOCK {
@@ -732,14 +739,24 @@ fn find(body: &[u8; MAX_TERM], place: usize, index: usize) -> Found {
             complete = 0;
             if b == ABSTRACTOR {
                 found.depth += 1;
-                near = found.depth == index;
                 if near {
+                    open += 1;
+                    found.between += 1;
+                    found.next = i;
+                } else if found.depth == index {
+                    near = true;
                     found.at = i;
                     found.mate = i;
+                    found.next = i;
                 }
             } else if near {
-                found.mate = i;
-                near = false;
+                if open == 0 {
+                    found.mate = i;
+                    near = false;
+                } else {
+                    open -= 1;
+                    found.next = i;
+                }
             }
         }
     }
@@ -798,17 +815,45 @@ fn end_of(body: &[u8; MAX_TERM], mut i: usize) -> usize {
     }
 }
 
+/// The abstractor that matches an applicator, by what follows the applicator in its train, and how many abstractors of the train
+/// stand between.
+#[inline]
+fn partner(body: &[u8; MAX_TERM], next: usize) -> Result<(usize, usize), u32> {
+    if body[next] == ABSTRACTOR {
+        return Ok((next, 0));
+    }
+    far_partner(body, next)
+}
+
+/// The same with wagons between.
+#[inline(never)]
+fn far_partner(body: &[u8; MAX_TERM], next: usize) -> Result<(usize, usize), u32> {
+    let mut at = next;
+    let mut open = 0;
+    let mut between = 0;
+    loop {
+        match body[at & MASK] {
+            APPLICATOR => open += 1,
+            ABSTRACTOR if open == 0 => return Ok((at, between)),
+            ABSTRACTOR => {
+                open -= 1;
+                between += 1;
+            }
+            _ => return Err(10),
+        }
+        at = end_of(body, at + 1);
+    }
+}
+
 /// Kind 2: the body's new length.
 #[inline(never)]
 fn removal(body: &mut [u8; MAX_TERM], n: usize, place: usize, scopes: &mut [u8; MAX_TERM]) -> Result<usize, u32> {
     if body[place] != APPLICATOR {
         return Err(10);
     }
-    let middle = end_of(body, place + 1);
-    if body[middle] != ABSTRACTOR {
-        return Err(10);
-    }
-    let rest = end_of(body, middle + 1);
+    let next = end_of(body, place + 1);
+    let (abstractor, _) = partner(body, next)?;
+    let rest = end_of(body, abstractor + 1);
     let mut scope = 1;
     let mut due = 0;
     for b in &mut body[rest..n] {
@@ -829,12 +874,18 @@ fn removal(body: &mut [u8; MAX_TERM], n: usize, place: usize, scopes: &mut [u8; 
         due -= 1;
         scope = scopes[due & MASK];
     }
-    body.copy_within(rest..n, place);
-    Ok(n - (rest - place))
+    let mut to = place;
+    if abstractor > next {
+        body.copy_within(next..abstractor, place);
+        to += abstractor - next;
+    }
+    body.copy_within(rest..n, to);
+    Ok(n - (rest - to))
 }
 
 /// Kind 3, after `depth` entries: the body's new length. One pass measures the uses, and one writes, with the text after the
-/// first use out of the way at the buffer's end. The first copy of K is the pattern of the others.
+/// first use out of the way at the buffer's end. The first copy of K is the pattern of the others. The applicator of a couple
+/// is first brought to its abstractor.
 #[inline(never)]
 fn substitution(
     body: &mut [u8; MAX_TERM],
@@ -846,12 +897,15 @@ fn substitution(
     if body[place] != APPLICATOR {
         return Err(10);
     }
-    let middle = end_of(body, place + 1);
-    if body[middle] != ABSTRACTOR {
-        return Err(10);
+    let next = end_of(body, place + 1);
+    let (abstractor, between) = partner(body, next)?;
+    let size = next - (place + 1);
+    let rest = end_of(body, abstractor + 1);
+    let mut place = place;
+    if abstractor > next {
+        body[place..abstractor].rotate_left(1 + size);
+        place += abstractor - next;
     }
-    let size = middle - (place + 1);
-    let rest = end_of(body, middle + 1);
     let mut uses = 0;
     let mut deepest = 0;
     let mut first = rest;
@@ -902,12 +956,13 @@ fn substitution(
     body.copy_within(pattern + 1..pattern + 1 + size, pattern);
     let mut from = MAX_TERM - (n - (first + 1));
     body.copy_within(first + 1..n, from);
+    let lift = first_scope - 1 + between as u8;
     let scope_of_k = if uses == 1 {
-        copy_lifted(body, pattern, pattern, usize::from(first_scope) - 1, scopes)
+        copy_lifted(body, pattern, pattern, lift.into(), scopes)
     } else {
-        lift_marked(body, pattern, size, first_scope - 1, scopes)
+        lift_marked(body, pattern, size, lift, scopes)
     };
-    // Of one scope there is room in any case: the pair's own abstractor goes.
+    // Of one scope there is room in any case: the couple's own abstractor goes.
     if scope_of_k > 1 && depth + find(body, place, 0).depth + usize::from(deepest) - 1 + scope_of_k > MAX_SCOPE {
         return Err(11);
     }

@@ -1,9 +1,9 @@
 //! The inputs, made by code: the same bytes in every run.
 
 use reference::file::Group;
-use reference::frame::{apply, Entry, Frame, Step, LOCAL, REMOVAL, SUBSTITUTION};
+use reference::frame::{apply, Entry, Frame, Reach, Step, LOCAL, REMOVAL, SUBSTITUTION};
 use reference::gen::{self, empty_groups, times};
-use reference::normaliser::{in_parts, meet, possible_steps, Pairs, Reduction};
+use reference::normaliser::{in_parts, meet, possible_steps, Manner, Reduction};
 use reference::term::{abs, app, Term};
 use reference::walk::walk;
 
@@ -40,7 +40,7 @@ const fn counted(name: &'static str, what: &'static str, make: fn() -> Vec<u8>) 
     Input { name, what, call: Call::Count, number: 0, make }
 }
 
-pub const ALL: [Input; 28] = [
+pub const ALL: [Input; 30] = [
     accepted("small", "small file (E3 of document 01)", small),
     accepted("book1", "book of 1 KB", || book(1023, 0, SHORT)),
     accepted("book2", "book of 2 KB", || book(2047, 0, SHORT)),
@@ -61,9 +61,11 @@ pub const ALL: [Input; 28] = [
     accepted("(5)", "(5) 222 removals from the front of 4,000 bytes, 89 times", || front_removals(222, 89)),
     accepted("(6)", "(6) a chain of 120 names at the end of 4,000 bytes", || chain_at_end(120, 70, 2)),
     accepted("(7)", "(7) 512 comparisons of 1,021 bytes, no step", || long_bodies(511, 512)),
-    accepted("whole", "book of relations, pairs by kind 3", || relations(Pairs::Whole)),
-    accepted("parts", "the same book, pairs by kinds 1 and 2", || relations(Pairs::InParts)),
+    accepted("whole", "book of relations, pairs by kind 3", || relations(Manner::Whole)),
+    accepted("parts", "the same book, pairs by kinds 1 and 2", || relations(Manner::InParts)),
     accepted("(8)", "(8) 1,600 substitutions to 4,095 bytes", || substitutions(23, 177, 800)),
+    accepted("(9)", "(9) 220 nested couples removed, from both ends, 40 times", || nested_removals(220, 40)),
+    accepted("(10)", "(10) 200 nested couples by kind 3, or 1 and 2, 30 times", || nested_substitutions(200, 30)),
     printed("pageS", "page of a small term (E3 of document 01)", || E3.to_vec()),
     printed("pageB", "page of the book of 4 KB", || book_term(4095, 0).bytes()),
     printed("pageU", "page of 2,047 deep in U", || gen::nested(2047)),
@@ -138,8 +140,8 @@ fn read_name(text: &mut &[u8]) -> String {
 /// declarations in turn, with `primitive` declarations that apply nothing in each turn. The steps are those of an author.
 fn book(bytes: usize, primitive: usize, effort: Effort) -> Vec<u8> {
     stepped(&book_term(bytes, primitive), |frame, type_of_k, u| {
-        let left = reduce(frame, type_of_k, effort.names, Pairs::InParts, last_name);
-        let right = reduce(frame, u, effort.names, Pairs::InParts, last_name);
+        let left = reduce(frame, type_of_k, effort.names, Manner::InParts, last_name);
+        let right = reduce(frame, u, effort.names, Manner::InParts, last_name);
         meet(&left, &right, effort.far).expect("the sides meet")
     })
 }
@@ -215,16 +217,16 @@ fn newest_name(body: &Term, steps: &[Step]) -> Option<Step> {
 }
 
 /// The body's own pairs first, then names.
-fn reduce(frame: &Frame, body: &Term, names: usize, pairs: Pairs, name: Name) -> Reduction {
+fn reduce(frame: &Frame, body: &Term, names: usize, manner: Manner, name: Name) -> Reduction {
     let unnamed: Frame = frame.iter().map(|entry| Entry::Single(entry.u().clone())).collect();
     let mut reduction = Reduction { bodies: vec![body.clone()], steps: Vec::new() };
     let mut names = names;
     loop {
         let last = reduction.bodies.last().expect("there is a first body");
-        let own = possible_steps(&unnamed, last, pairs);
+        let own = possible_steps(&unnamed, last, manner, Reach::Pairs);
         let step = match own.iter().find(|step| step.kind != LOCAL).or(own.first()) {
             Some(&step) => step,
-            None => match name(last, &possible_steps(frame, last, pairs)) {
+            None => match name(last, &possible_steps(frame, last, manner, Reach::Pairs)) {
                 Some(step) if names > 0 => {
                     names -= 1;
                     step
@@ -240,7 +242,7 @@ fn reduce(frame: &Frame, body: &Term, names: usize, pairs: Pairs, name: Name) ->
 
 /// A book of numbers n and proofs of <n><n><n><n>R, each from the one before by one lemma: the type that the lemma gives begins
 /// with a pair of eight uses. The pairs go whole, or each in its parts.
-fn relations(pairs: Pairs) -> Vec<u8> {
+fn relations(manner: Manner) -> Vec<u8> {
     let of = |x: &str| format!("<{x}>").repeat(4);
     let mut text = String::from("[nat:*][z:nat][s:[x:nat]nat][R:[u:nat][v:nat][w:nat][x:nat]*]");
     text += &format!("[i:[x:nat][h:{}R]{}R][b:{}R]<z>[n0:nat]<b>[p0:{}R]", of("x"), of("<x>s"), of("z"), of("n0"));
@@ -248,12 +250,12 @@ fn relations(pairs: Pairs) -> Vec<u8> {
         text += &format!("<<n{last}>s>[n{i}:nat]<<p{last}><n{last}>i>[p{i}:{}R]", of(&format!("n{i}")));
     }
     stepped(&read_all(&text), |frame, type_of_k, u| {
-        let left = reduce(frame, type_of_k, SHORT.names, Pairs::Whole, newest_name);
-        let right = reduce(frame, u, SHORT.names, Pairs::Whole, newest_name);
+        let left = reduce(frame, type_of_k, SHORT.names, Manner::Whole, newest_name);
+        let right = reduce(frame, u, SHORT.names, Manner::Whole, newest_name);
         let (left_steps, right_steps) = meet(&left, &right, false).expect("the sides meet");
-        match pairs {
-            Pairs::Whole => (left_steps, right_steps),
-            Pairs::InParts => (all_in_parts(&left, &left_steps), all_in_parts(&right, &right_steps)),
+        match manner {
+            Manner::Whole => (left_steps, right_steps),
+            Manner::InParts => (all_in_parts(&left, &left_steps), all_in_parts(&right, &right_steps)),
         }
     })
 }
@@ -417,6 +419,32 @@ fn substitutions(copies: usize, size: usize, count: usize) -> Vec<u8> {
     let mut groups = empty_groups(2);
     groups.extend(vec![group(steps.clone(), steps); count]);
     gen::file(&term, &groups)
+}
+
+/// [x:*][a:T][f:[y:T]*] and applications of f to a, where T is <x>..<x>[*]..[*]V, couples in each other, and V is given by the
+/// index of x outside T. The steps on both sides of a comparison make one of them.
+fn couples(n: usize, v: impl Fn(u8) -> Vec<u8>, left: Vec<Step>, right: Vec<Step>, count: usize) -> Vec<u8> {
+    let t = |x: u8| joined(&[&times(n, &[0xfe, x]), &times(n, &[0xff, 0]), &v(x)]);
+    let term = joined(&[&[0xff, 0, 0xff], &t(1), &[0xff, 0xff], &t(2), &[0], &applications(2, 1, count)]);
+    let mut groups = empty_groups(2 * n);
+    groups.extend(vec![group(left, right); count]);
+    gen::file(&term, &groups)
+}
+
+/// V has 50 uses of x. The couples are removed on the left from the outside, on the right from the inside.
+fn nested_removals(n: usize, count: usize) -> Vec<u8> {
+    couples(n, |x| uses_of(n as u8 + x, 50), vec![removal(0); n], pair_removals(n), count)
+}
+
+/// V has a use of each couple. They are substituted on the left, from both ends in turn; on the right each is replaced, and then
+/// the couples are removed from the outside.
+fn nested_substitutions(n: usize, count: usize) -> Vec<u8> {
+    let v = joined(&[&vec![0xff; n - 1], &[1], &(3..=n as u8 + 1).collect::<Vec<u8>>()]);
+    let ends = (1..=n).rev().map(|left| if left % 2 == 0 { 0 } else { 2 * (left - 1) });
+    let left = ends.map(|place| Step { kind: SUBSTITUTION, place }).collect();
+    let first = 4 * n + n - 1;
+    let right = (first..first + n).map(local).chain(vec![removal(0); n]).collect();
+    couples(n, |_| v.clone(), left, right, count)
 }
 
 // ---- Nesting and waiting.

@@ -15,7 +15,7 @@ use bijterne::{CountAnswer, Written, LONGEST_COUNTED, LONGEST_PAGE};
 use fast::{Answer, Space};
 use inputs::{Call, Input};
 use reference::file::read_fields;
-use reference::frame::SUBSTITUTION;
+use reference::frame::{apply_to_pairs, SUBSTITUTION};
 use reference::gen::{self};
 use reference::rng::Rng;
 use reference::stack::on_large_stack;
@@ -138,8 +138,9 @@ fn agree(seed: u64, count: u64) {
 /// Generated files: every tenth with chains of copied text, every tenth at a limit, and of the others one in eight too.
 fn agree_on_files(rng: &mut Rng, seed: u64, count: u64, space: &mut Space) {
     let mut numbers = [0; 15];
-    // Accepted files with a step of kind 3.
+    // Accepted files with a step of kind 3, and with a step over a couple that is no pair.
     let mut whole = 0;
+    let mut coupled = 0;
     for i in 0..count {
         let file = match i % 10 {
             0 => chains::chain_file(rng),
@@ -151,11 +152,15 @@ fn agree_on_files(rng: &mut Rng, seed: u64, count: u64, space: &mut Space) {
         if let (0, Ok(fields)) = (number, read_fields(&file)) {
             let mut steps = fields.groups.iter().flat_map(|group| group.left.iter().chain(&group.right));
             whole += usize::from(steps.any(|step| step.kind == SUBSTITUTION));
+            coupled += usize::from(reference::check_by(apply_to_pairs, &file).number != 0);
         }
     }
-    println!("{count} files agreed; answers 0 to 13: {:?}; accepted with kind 3: {whole}", &numbers[..14]);
-    if count >= 100 && whole == 0 {
-        println!("MISSING accepted with kind 3");
+    println!(
+        "{count} files agreed; answers 0 to 13: {:?}; accepted with kind 3: {whole}, over couples: {coupled}",
+        &numbers[..14]
+    );
+    if count >= 100 && (whole == 0 || coupled == 0) {
+        println!("MISSING accepted with kind 3, or over couples");
         exit(1);
     }
 }

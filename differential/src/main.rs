@@ -8,7 +8,9 @@
 //! - bare terms: all terms of at most 3 bytes, as all strings of at most 2 bytes and all of 3 that begin with fe or ff; all
 //!   strings of at most 5 bytes over the interesting values, since the 131 million terms of 5 bytes differ otherwise only in
 //!   indices beyond every scope (Term, Type, Print; for those that are closed terms also Step, of kinds 0 to 4 at every place);
-//! - all closed terms of at most 9 bytes with indices of at most 2, for Step of kind 3 at every applicator;
+//! - all closed terms of at most 9 bytes with indices of at most 2, for Step of kind 1 at every variable and of kinds 2 and 3 at
+//!   every applicator; a train for every sequence of at most 8 applicators and abstractors, for Step of kinds 1 to 3 at every
+//!   place;
 //! - closed terms of every size about a line's end, the smallest and the longest, for Print, into the buffers that `pages` says;
 //! - all strings of at most 2 bytes, counted by the proved library's own answers to Term, for Count.
 //!
@@ -16,9 +18,9 @@
 //! longer than the result, and then empty, too short by one, exact or longer by one, its bytes at random; a length (Count).
 //!
 //! A disagreement prints the smallest call that it could be shrunk to, and the exit status is 1; so it is if in a run of
-//! 100,000 or more some number from 0 to 15 was no call's answer, or no accepted file had so many comparisons, or steps, or
-//! some number was missing from the answers with kind 3, or 0, 3, 4, 5, 6 or 14 from those of Print, or 0 or 15 from those of
-//! Count.
+//! 100,000 or more, among the calls made from the seed, some number from 0 to 15 was no call's answer, or no accepted file had so
+//! many comparisons, or steps, or some number was missing from the answers with kind 3, or from those that would be 10 if steps
+//! took pairs only, or 0, 3, 4, 5, 6 or 14 from those of Print, or 0 or 15 from those of Count.
 
 mod call;
 mod named;
@@ -26,8 +28,8 @@ mod shrink;
 mod tally;
 
 use call::{Answer, Call, Kind};
-use reference::frame::SUBSTITUTION;
-use reference::gen::{bare_term, closed_term, empty_groups, file, random_file, step_for};
+use reference::frame::{LOCAL, REMOVAL, SUBSTITUTION};
+use reference::gen::{bare_term, closed_term, empty_groups, file, random_file, step_for, train_after, Wagon};
 use reference::rng::Rng;
 use reference::mistakes::set_aside;
 use reference::page::page_length;
@@ -133,11 +135,36 @@ fn fixed(tally: &mut Tally) -> Result<usize, Disagreed> {
         }
     }
     for input in (1..=9).step_by(2).flat_map(small_terms).filter(|input| read_term(input).is_ok()) {
-        for place in (0..input.len()).filter(|place| input[*place] == 0xfe) {
-            compare(&Call::lending(Kind::Step(SUBSTITUTION, place as u16), &input, 10, &mut rng), tally)?;
+        for (place, byte) in input.iter().enumerate() {
+            let kinds: &[u8] = match byte {
+                0 | 0xff => &[],
+                0xfe => &[REMOVAL, SUBSTITUTION],
+                _ => &[LOCAL],
+            };
+            for &kind in kinds {
+                compare(&Call::lending(Kind::Step(kind, place as u16), &input, 10, &mut rng), tally)?;
+            }
         }
     }
+    trains(&mut rng, tally)?;
     Ok(written)
+}
+
+/// The steps of kinds 1 to 3 at every place of a train for every sequence of at most 8 applicators and abstractors, after two
+/// abstractors more.
+fn trains(rng: &mut Rng, tally: &mut Tally) -> Result<(), Disagreed> {
+    let sorts = [Wagon::Applicator, Wagon::Abstractor];
+    for word in strings(&[0, 1], 8) {
+        let word: Vec<Wagon> = word.iter().map(|sort| sorts[usize::from(*sort)]).collect();
+        let train = set_aside(|| train_after(rng, &word, 2)).bytes();
+        let input = [&[0xff, 0, 0xff, 0], &train[..]].concat();
+        for place in 0..=input.len() as u16 {
+            for kind in [LOCAL, REMOVAL, SUBSTITUTION] {
+                compare(&Call::lending(Kind::Step(kind, place), &input, 4_096, rng), tally)?;
+            }
+        }
+    }
+    Ok(())
 }
 
 /// Counts these strings, all of at most 2 bytes, by the proved library's answers to Term, and compares its answers to Count.
@@ -229,8 +256,9 @@ fn random(number: u64, tally: &mut Tally) -> Result<(), Disagreed> {
     Ok(())
 }
 
-/// All comparisons. What is made from the seed is dealt to the threads in turn, so its answers do not depend on their number.
-fn run(seed: u64, count: u64) -> Result<Tally, Disagreed> {
+/// All comparisons: their answers, and what is missing among those made from the seed. These are dealt to the threads in turn,
+/// so they do not depend on the number of threads.
+fn run(seed: u64, count: u64) -> Result<(Tally, Vec<String>), Disagreed> {
     let mut tally = Tally::default();
     let written = on_large_stack(|| fixed(&mut tally))?;
     println!("{written} examples and inputs at the limits have the written answer");
@@ -259,10 +287,12 @@ fn run(seed: u64, count: u64) -> Result<Tally, Disagreed> {
         let workers: Vec<_> = (0..threads).map(|own| scope.spawn(move || on_large_stack(|| deal(own)))).collect();
         workers.into_iter().map(|worker| worker.join().expect("a worker ends")).collect()
     });
+    let mut generated = Tally::default();
     for part in dealt {
-        tally.add(&part?);
+        generated.add(&part?);
     }
-    Ok(tally)
+    tally.add(&generated);
+    Ok((tally, generated.missing()))
 }
 
 fn main() -> ExitCode {
@@ -277,11 +307,10 @@ fn main() -> ExitCode {
         eprintln!("usage: differential SEED COUNT");
         return ExitCode::from(2);
     };
-    let Ok(tally) = run(seed, count) else {
+    let Ok((tally, missing)) = run(seed, count) else {
         return ExitCode::FAILURE;
     };
     tally.print();
-    let missing = tally.missing();
     if count >= 100_000 && !missing.is_empty() {
         println!("MISSING {}", missing.join(", "));
         return ExitCode::FAILURE;

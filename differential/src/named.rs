@@ -1,5 +1,5 @@
-//! Document 01's examples, the readings of kind 3, of printing and of counting, and inputs just within a limit and just beyond
-//! it, each with its answer written out.
+//! Document 01's examples, the readings of kind 3, of printing, of counting and of couples, and inputs just within a limit and
+//! just beyond it, each with its answer written out.
 //!
 //! Every state's size is odd: an item counts 1 and a term, whose size is odd. So 8,192 bytes is no state's size, and 8,191 and
 //! 8,193 are the neighbours of that limit; 4,095 and 4,097 those of a compared body's. While B is the term's own text, R, W and
@@ -9,7 +9,8 @@
 use crate::call::{Call, Kind};
 use reference::file::Group;
 use reference::frame::{Step, LOCAL, REMOVAL, SUBSTITUTION};
-use reference::gen::{all_four, empty_groups, file, nested, stepped_copies, substituted_copies, substituted_scopes, times};
+use reference::gen::{all_four, coupled_copies, coupled_scopes, empty_groups, file, nested, nested_couples};
+use reference::gen::{stepped_copies, substituted_copies, substituted_scopes, times};
 use reference::rng::Rng;
 
 pub struct Named {
@@ -107,6 +108,10 @@ pub fn named() -> Vec<Named> {
     substitutions_in_files(&mut table);
     pages(&mut table);
     counts(&mut table);
+    couples(&mut table);
+    wagons_between(&mut table);
+    couples_at_limits(&mut table);
+    couples_in_files(&mut table);
     table.0
 }
 
@@ -164,7 +169,7 @@ fn examples(t: &mut Table) {
     t.bare("a removal, used in a later U", At(REMOVAL, 0), &[0xfe, 0, 0xff, 0, 0xff, 1, 0], 8, Some((10, 0, 0)));
     t.bare("a removal, used at the end", At(REMOVAL, 0), &[0xfe, 0, 0xff, 0, 0xff, 0, 2], 8, Some((10, 0, 0)));
     t.result("a removal, used nowhere", At(REMOVAL, 0), &[0xfe, 0, 0xff, 0, 0xff, 0, 1], 8, &[0xff, 0, 1]);
-    t.bare("a removal, no abstractor next", At(REMOVAL, 0), &[0xfe, 0, 0xfe, 0, 0xff, 0, 0], 8, Some((10, 0, 0)));
+    t.bare("a removal, no partner", At(REMOVAL, 0), &[0xfe, 0, 0xfe, 0, 0xff, 0, 0], 8, Some((10, 0, 0)));
     t.result("a removal of all wagons", At(REMOVAL, 0), &[0xfe, 0, 0xff, 0, 0], 8, &[0]);
     let alone = [0xff, 0, 1];
     for kind in [0, 4, 9, 255] {
@@ -623,5 +628,238 @@ fn counts(t: &mut Table) {
     let large = [(1 << 32) - 1, 1 << 32, (1 << 32) + 7, 1 << 63, usize::MAX];
     for length in small.into_iter().chain(large) {
         t.count("over 7 bytes", length, [15, 0, 0, 0]);
+    }
+}
+
+/// The readings D1, D2, D3 and D5, and what is no couple.
+fn couples(t: &mut Table) {
+    use Kind::Step as At;
+    const REFUSED: Option<(u64, usize, u64)> = Some((10, 0, 0));
+    let nested = [0xfe, 0, 0xfe, 0, 0xff, 0, 0xff, 0, 1];
+    t.result("D1: two wagons between", At(LOCAL, 8), &nested, 9, &[0xfe, 0, 0xfe, 0, 0xff, 0, 0xff, 0, 0]);
+    t.bare("D1: two wagons between, shorter", At(LOCAL, 8), &nested, 8, Some((14, 0, 0)));
+    let deeper = [0xfe, 0, 0xfe, 0, 0xfe, 0, 0xff, 0, 0xff, 0, 0xff, 0, 1];
+    t.result("D1: four wagons between", At(LOCAL, 12), &deeper, 13, &joined(&[&deeper[..12], &[0]]));
+    let lifted = [0xff, 0, 0xfe, 1, 0xfe, 0, 0xff, 0, 0xff, 0, 1];
+    t.result("D2", At(LOCAL, 10), &lifted, 11, &[0xff, 0, 0xfe, 1, 0xfe, 0, 0xff, 0, 0xff, 0, 3]);
+    t.result("D3: the last index falls", At(REMOVAL, 0), &[0xfe, 0, 0xfe, 0, 0xff, 0, 0xff, 0, 2], 9, &[0xfe, 0, 0xff, 0, 1]);
+    let stays = [0xff, 0, 0xfe, 1, 0xfe, 1, 0xff, 1, 0xff, 0, 0xff, 0, 4];
+    t.result("D3: what is between stays", At(REMOVAL, 2), &stays, 13, &[0xff, 0, 0xfe, 1, 0xff, 1, 0xff, 0, 3]);
+    t.result("D3: kind 3 on D2's term", At(SUBSTITUTION, 2), &lifted, 11, &[0xff, 0, 0xfe, 0, 0xff, 0, 2]);
+    for kind in [REMOVAL, SUBSTITUTION] {
+        t.bare("D5: nothing left to match", At(kind, 0), &[0xfe, 0, 0xfe, 0, 0xff, 0, 0], 9, REFUSED);
+    }
+    let used = [0xfe, 0, 0xfe, 0, 0xff, 0, 0xff, 1, 0];
+    t.bare("D5: used in the outer U", At(REMOVAL, 2), &used, 9, REFUSED);
+    t.result("D5: substituted in the outer U", At(SUBSTITUTION, 2), &used, 9, &[0xfe, 0, 0xff, 0, 0]);
+    t.result("D5: the outer couple removed", At(REMOVAL, 0), &used, 9, &[0xfe, 0, 0xff, 0, 0]);
+
+    // [τ]⟨τ⟩⟨1⟩⟨1⟩[1][1][2]⟨1⟩⟨2⟩v: the first applicator goes with the last abstractor, the two last with none.
+    let around = |v: u8| [0xff, 0, 0xfe, 0, 0xfe, 1, 0xfe, 1, 0xff, 1, 0xff, 1, 0xff, 2, 0xfe, 1, 0xfe, 2, v];
+    for place in [14, 16] {
+        for kind in [REMOVAL, SUBSTITUTION] {
+            t.bare("an unmatched applicator after couples", At(kind, place), &around(3), 19, REFUSED);
+        }
+    }
+    t.bare("a bachelor before couples", At(LOCAL, 18), &around(4), 19, REFUSED);
+    let with_end = |end: &[u8]| joined(&[&around(0)[..18], end]);
+    t.result("the outermost of three", At(LOCAL, 18), &around(1), 19, &with_end(&[0]));
+    t.result("the middle one of three", At(LOCAL, 18), &around(2), 19, &with_end(&[4]));
+    t.result("the innermost of three", At(LOCAL, 18), &around(3), 19, &with_end(&[4]));
+    t.result("the outermost, in a later K", At(LOCAL, 15), &around(1), 19, &joined(&[&around(0)[..15], &[0, 0xfe, 2, 1]]));
+    t.bare("the outermost, still used", At(REMOVAL, 2), &around(3), 19, REFUSED);
+    let outer = [0xff, 0, 0xfe, 1, 0xfe, 1, 0xff, 1, 0xff, 1, 0xfe, 0, 0xfe, 1, 2];
+    t.result("the outermost substituted", At(SUBSTITUTION, 2), &around(3), 19, &outer);
+    let middle = [0xff, 0, 0xfe, 0, 0xfe, 1, 0xff, 1, 0xff, 1, 0xfe, 1, 0xfe, 3, 2];
+    t.result("the middle one substituted", At(SUBSTITUTION, 4), &around(3), 19, &middle);
+    t.bare("the innermost, used in the next U", At(REMOVAL, 6), &around(4), 19, REFUSED);
+
+    t.bare("a bachelor after a pair", At(LOCAL, 6), &[0xfe, 0, 0xff, 0, 0xff, 0, 1], 9, REFUSED);
+    t.result("a pair before a bachelor", At(LOCAL, 6), &[0xfe, 0, 0xff, 0, 0xff, 0, 2], 9, &[0xfe, 0, 0xff, 0, 0xff, 0, 0]);
+    t.bare("⟨τ⟩[[τ]1]τ: an abstractor inside", At(LOCAL, 5), &[0xfe, 0, 0xff, 0xff, 0, 1, 0], 9, REFUSED);
+    t.bare("⟨τ⟩⟨[τ]1⟩[τ]τ: an abstractor inside", At(LOCAL, 5), &[0xfe, 0, 0xfe, 0xff, 0, 1, 0xff, 0, 0], 9, REFUSED);
+    let inner = [0xfe, 0xfe, 0, 0, 0xff, 0, 1];
+    for kind in [REMOVAL, SUBSTITUTION] {
+        t.bare("⟨⟨τ⟩τ⟩[τ]1: an applicator inside", At(kind, 1), &inner, 9, REFUSED);
+        t.bare("[⟨τ⟩τ][τ]τ: an applicator inside", At(kind, 1), &[0xff, 0xfe, 0, 0, 0xff, 0, 0], 9, REFUSED);
+    }
+    t.result("⟨⟨τ⟩τ⟩[τ]1: the applicator outside", At(SUBSTITUTION, 0), &inner, 9, &[0xfe, 0, 0]);
+    // ⟨τ⟩⟨τ⟩[τ]⟨⟨τ⟩⟨τ⟩[τ][τ]2⟩[τ][τ]3 with couples in two trains.
+    let trains = [0xfe, 0, 0xfe, 0, 0xff, 0, 0xfe, 0xfe, 0, 0xfe, 0, 0xff, 0, 0xff, 0, 2, 0xff, 0, 0xff, 0, 3];
+    let without = |from: usize, to: usize, then: usize, last: &[u8]| joined(&[&trains[..from], &trains[to..then], last]);
+    t.result("the outer train's", At(REMOVAL, 0), &trains, 21, &without(0, 2, 18, &[2]));
+    t.result("the inner train's", At(REMOVAL, 7), &trains, 21, &without(7, 9, 13, &[1, 0xff, 0, 0xff, 0, 3]));
+}
+
+/// A couple in a [τ] with 0, 2, 4 and 6 wagons between, nested and side by side: [τ]⟨1⟩..[τ]v.
+fn wagons_between(t: &mut Table) {
+    use Kind::Step as At;
+    for n in 0..=3 {
+        let side_by_side: Vec<u8> = (1..=n).flat_map(|i| [0xfe, i, 0xff, i]).collect();
+        let nested = joined(&[&times(n.into(), &[0xfe, 1]), &times(n.into(), &[0xff, 0])]);
+        for between in [nested, side_by_side] {
+            let term = |v: &[u8]| joined(&[&[0xff, 0, 0xfe, 1], &between, &[0xff, 0], v]);
+            let dropped = |v: &[u8]| joined(&[&[0xff, 0], &between, v]);
+            let last = 6 + 4 * u16::from(n);
+            t.result("K lifted past what is between", At(LOCAL, last), &term(&[1]), 30, &term(&[n + 2]));
+            t.bare("no use left", At(REMOVAL, 2), &term(&[1]), 30, Some((10, 0, 0)));
+            t.result("removed, the [τ] before", At(REMOVAL, 2), &term(&[n + 2]), 30, &dropped(&[n + 1]));
+            t.result("substituted", At(SUBSTITUTION, 2), &term(&[1]), 30, &dropped(&[n + 1]));
+            // [1]⟨2⟩[[2]3]v, the couple's variable once more and the [τ] before.
+            let uses = [0xff, 1, 0xfe, 2, 0xff, 0xff, 2, 3, n + 4];
+            let replaced = [0xff, n + 1, 0xfe, n + 2, 0xff, 0xff, n + 2, n + 3, n + 3];
+            t.result("substituted all over", At(SUBSTITUTION, 2), &term(&uses), 40, &dropped(&replaced));
+            t.result("one use of four", At(LOCAL, last + 3), &term(&uses), 40, &term(&[0xff, 1, 0xfe, n + 3, 0xff, 0xff, 2, 3, n + 4]));
+            t.result("a use in a U", At(LOCAL, last + 7), &term(&uses), 40, &term(&[0xff, 1, 0xfe, 2, 0xff, 0xff, 2, n + 4, n + 4]));
+            if n > 0 {
+                t.result("removed, one between used", At(REMOVAL, 2), &term(&[2]), 30, &dropped(&[1]));
+                t.result("substituted, one between used", At(SUBSTITUTION, 2), &term(&[2]), 30, &dropped(&[1]));
+            }
+        }
+    }
+}
+
+/// Couples of many and of long wagons, and results at the limits of bytes and scopes.
+fn couples_at_limits(t: &mut Table) {
+    use Kind::Step as At;
+    // 253 nested couples: index 1 goes with the first applicator, index 253 with the last.
+    let all = |n: usize, v: u8| joined(&[&nested_couples(n), &[v]]);
+    t.result("252 couples between", At(LOCAL, 1_012), &all(253, 1), 2_000, &all(253, 0));
+    t.result("the inmost of 253", At(LOCAL, 1_012), &all(253, 253), 2_000, &all(253, 0));
+    t.result("the outermost of 253 removed", At(REMOVAL, 0), &all(253, 253), 2_000, &all(252, 252));
+    t.result("the outermost of 253 substituted", At(SUBSTITUTION, 0), &all(253, 1), 2_000, &all(252, 0));
+    t.result("the inmost of 253 removed", At(REMOVAL, 504), &all(253, 1), 2_000, &all(252, 1));
+    t.result("the inmost of 253 substituted", At(SUBSTITUTION, 504), &all(253, 253), 2_000, &all(252, 0));
+    t.bare("the inmost of 253 still used", At(REMOVAL, 504), &all(253, 253), 2_000, Some((10, 0, 0)));
+    let one_more = joined(&[&[0xfe, 0], &all(253, 1)]);
+    t.bare("an applicator before 253 couples", At(REMOVAL, 0), &one_more, 2_000, Some((10, 0, 0)));
+    t.bare("an applicator before 253 couples", At(SUBSTITUTION, 0), &one_more, 2_000, Some((10, 0, 0)));
+    let pairs = |v: u8| joined(&[&[0xfe, 0], &times(252, &[0xfe, 0, 0xff, 0]), &[0xff, 0, v]]);
+    t.result("252 pairs between", At(LOCAL, 1_012), &pairs(1), 2_000, &pairs(0));
+    let without = |v: u8| joined(&[&times(252, &[0xfe, 0, 0xff, 0]), &[v]]);
+    t.result("252 pairs between, removed", At(REMOVAL, 0), &pairs(253), 2_000, &without(252));
+    t.result("252 pairs between, substituted", At(SUBSTITUTION, 0), &pairs(1), 2_000, &without(0));
+    // 251 couples between in a [τ]: K is lifted to the farthest index.
+    let far = |v: &[u8]| joined(&[&[0xff, 0, 0xfe, 1], &nested_couples(251), v]);
+    t.result("to index 253", At(LOCAL, 1_010), &far(&[0xff, 0, 1]), 2_000, &far(&[0xff, 0, 253]));
+    let result = joined(&[&[0xff, 0], &nested_couples(251), &[252]]);
+    t.result("to index 252", At(SUBSTITUTION, 2), &far(&[0xff, 0, 1]), 2_000, &result);
+    // As many applicators as there is room for; 1,541 of them wait.
+    let many = |v: u8| joined(&[&times(1_794, &[0xfe, 0]), &declarations(253), &[v]]);
+    t.result("1,794 applicators, 253 taken", At(LOCAL, 4_094), &many(1), 5_000, &many(0));
+    for place in [0, 2, 3_080] {
+        t.bare("an applicator that waits", At(REMOVAL, place), &many(0), 5_000, Some((10, 0, 0)));
+    }
+    let fewer = joined(&[&times(1_793, &[0xfe, 0]), &declarations(252), &[0]]);
+    for place in [3_082, 3_586] {
+        t.result("the first and the last that is taken", At(REMOVAL, place), &many(0), 5_000, &fewer);
+    }
+
+    // N(n), n couples in each other's K, and the couple ⟨τ⟩⟨N(n)⟩[U][τ]v.
+    let in_ks = |n: usize| joined(&[&vec![0xfe; n], &[0], &times(n, &[0xff, 0, 0])]);
+    let long = |n: usize, u: &[u8], v: u8| joined(&[&[0xfe, 0, 0xfe], &in_ks(n), &[0xff], u, &[0xff, 0, v]]);
+    let left = |n: usize, u: &[u8], v: u8| joined(&[&[0xfe], &in_ks(n), &[0xff], u, &[v]]);
+    for (n, u) in [(1_021, vec![0]), (500, in_ks(521)), (1, in_ks(1_020))] {
+        let last = (long(n, &u, 1).len() - 1) as u16;
+        assert_eq!(last, 4_092);
+        t.result("long wagons between", At(LOCAL, last), &long(n, &u, 1), 5_000, &long(n, &u, 0));
+        t.result("long wagons between, removed", At(REMOVAL, 0), &long(n, &u, 2), 5_000, &left(n, &u, 1));
+        t.result("long wagons between, substituted", At(SUBSTITUTION, 0), &long(n, &u, 1), 5_000, &left(n, &u, 0));
+        t.result("the inner couple", At(SUBSTITUTION, 2), &long(n, &u, 1), 5_000, &[0xfe, 0, 0xff, 0, 1]);
+        let inmost = 2 + n as u16;
+        t.result("the inmost of many", At(REMOVAL, inmost), &long(n, &u, 1), 5_000, &long(n - 1, &u, 1));
+    }
+
+    // ⟨K⟩, b couples, [τ][1]1 with the 1 in the U replaced: 4,095 bytes; [τ] before that makes 4,097.
+    let stepped = |b: usize, more: usize| {
+        let k = nested(1_022 - b);
+        joined(&[&declarations(more), &[0xfe], &k, &nested_couples(b), &[0xff, 0, 0xff, 1, 1]])
+    };
+    for b in [1, 3, 100] {
+        let place = |more: usize| (2 * more + 2_049 + 2 * b) as u16;
+        t.bare("a step to 4,095 bytes, exact", At(LOCAL, place(0)), &stepped(b, 0), 4_095, Some((0, 0, 4_095)));
+        t.bare("a step to 4,095 bytes, shorter", At(LOCAL, place(0)), &stepped(b, 0), 4_094, Some((14, 0, 0)));
+        t.bare("a step to 4,097 bytes", At(LOCAL, place(1)), &stepped(b, 1), 5_000, Some((11, 0, 0)));
+        t.bare("a step to 4,097 bytes, no buffer", At(LOCAL, place(1)), &stepped(b, 1), 0, Some((11, 0, 0)));
+    }
+    // ⟨K⟩, b couples, [τ] and uses, each a U.
+    let copies = |n: usize, size: usize, b: usize| {
+        let uses: Vec<u8> = (1..=n as u8).flat_map(|d| [0xff, d]).collect();
+        joined(&[&[0xfe], &nested(size / 2), &nested_couples(b), &[0xff, 0], &uses, &[0]])
+    };
+    let whole = At(SUBSTITUTION, 0);
+    t.bare("substituted to 4,095 bytes, exact", whole, &copies(5, 817, 1), 4_095, Some((0, 0, 4_095)));
+    t.bare("substituted to 4,095 bytes, shorter", whole, &copies(5, 817, 1), 4_094, Some((14, 0, 0)));
+    t.bare("substituted to 4,097 bytes", whole, &copies(33, 123, 1), 5_000, Some((11, 0, 0)));
+    t.bare("substituted to 4,097 bytes, no buffer", whole, &copies(33, 123, 1), 0, Some((11, 0, 0)));
+    // ⟨m abstractors⟩, b couples, [τ]1: m + b scopes, one more on the way.
+    let deep = |m: usize, b: usize| joined(&[&[0xfe], &declarations(m), &[0], &nested_couples(b), &[0xff, 0, 1]]);
+    for b in [1, 100, 252] {
+        let last = |m: usize| (deep(m, b).len() - 1) as u16;
+        let length = |m: usize| deep(m, b).len() as u64;
+        let (most, over) = (252 - b, 253 - b);
+        let stepped = length(most) + 2 * most as u64;
+        t.bare("a step into 253 scopes", At(LOCAL, last(most)), &deep(most, b), 5_000, Some((0, 0, stepped)));
+        t.bare("a step into 254 scopes", At(LOCAL, last(over)), &deep(over, b), 5_000, Some((11, 0, 0)));
+        t.bare("into 253 scopes, 254 on the way", whole, &deep(over, b), 5_000, Some((0, 0, length(over) - 4)));
+        if b < 252 {
+            t.bare("into 254 scopes", whole, &deep(over + 1, b), 5_000, Some((11, 0, 0)));
+        }
+    }
+}
+
+/// Couples in files: D4, D6 and D7, and the limits of a compared body.
+fn couples_in_files(t: &mut Table) {
+    // [a:τ][f:[τ]1]⟨a⟩⟨f⟩[[τ]1]1: the type of f is [τ]1, and ⟨a⟩ waits before it.
+    let waiting = [0xff, 0, 0xff, 0xff, 0, 1, 0xfe, 2, 0xfe, 1, 0xff, 0xff, 0, 1, 1];
+    let steps = |left: Vec<Step>, right: Vec<Step>| file(&waiting, &[group(left, right), no_steps()]);
+    t.check("D4: W takes no part", steps(local(2), local(2)), (10, 8, 0, 3));
+    t.check("D4: W takes no part on the right", steps(vec![], local(2)), (10, 8, 0, 3));
+    let far_apart = [0xff, 0, 0xff, 1, 0xfe, 2, 0xfe, 2, 0xff, 0, 0xff, 0, 0xfe, 3, 0xff, 1, 1];
+    let frame = file(&far_apart, &[no_steps(), no_steps(), group(vec![], local(0))]);
+    t.check("D4: a frame pair of wagons far apart", frame, (0, 0, 3, 3));
+    // [a:τ]⟨a⟩[b:τ][g:[τ]1]⟨g⟩[[τ]1]τ: the type of g is [τ]1, after a frame pair.
+    let paired = [0xff, 0, 0xfe, 1, 0xff, 0, 0xff, 0xff, 0, 1, 0xfe, 1, 0xff, 0xff, 0, 1, 0];
+    let steps = |left: Vec<Step>| file(&paired, &[no_steps(), group(left, vec![])]);
+    t.check("D4: the frame takes no part", steps(local(2)), (10, 10, 1, 1));
+    t.check("D4: no step", steps(vec![]), (0, 0, 2, 1));
+
+    // [p:τ][a:p][f:[p][p]p]⟨⟨a⟩⟨a⟩f⟩[p]τ: the type of K is ⟨a⟩⟨a⟩[p][p]p.
+    let copied = [0xff, 0, 0xff, 1, 0xff, 0xff, 2, 0xff, 3, 4, 0xfe, 0xfe, 2, 0xfe, 2, 1, 0xff, 3, 0];
+    let steps = |left: Vec<Step>| file(&copied, &[no_steps(), no_steps(), group(left, vec![])]);
+    for kind in [removal, whole] {
+        t.check("D6: the outer couple first", steps([kind(0), kind(0)].concat()), (0, 0, 3, 1));
+        t.check("D6: the inner couple first", steps([kind(2), kind(0)].concat()), (0, 0, 3, 1));
+        t.check("D6: the outer couple alone", steps(kind(0)), (12, 10, 2, 1));
+        t.check("D6: nothing at 2 is left", steps([kind(0), kind(2)].concat()), (10, 10, 2, 1));
+    }
+
+    let defined = [0xff, 0, 0xff, 1, 0xfe, 1, 0xff, 0xfe, 2, 0xfe, 2, 0xff, 0, 0xff, 0, 1, 0];
+    let steps = |right: Vec<Step>| file(&defined, &[no_steps(), no_steps(), group(vec![], right)]);
+    t.check("D7", steps([whole(0), whole(0)].concat()), (0, 0, 3, 1));
+    t.check("D7: pair by pair", steps([whole(2), whole(0)].concat()), (0, 0, 3, 1));
+    t.check("D7: in parts", steps([local(8), removal(0), removal(0)].concat()), (0, 0, 3, 1));
+    t.check("D7: still used", steps(removal(0)), (10, 4, 2, 1));
+    t.check("D7: the outer couple alone", steps(whole(0)), (12, 4, 2, 1));
+    t.check("D7: no step", steps(vec![]), (12, 4, 2, 1));
+    t.check("D7: one step more", steps([whole(0), whole(0), whole(0)].concat()), (10, 4, 2, 1));
+    t.check("D7: no group for it", file(&defined, &empty_groups(2)), (9, 4, 2, 1));
+
+    // Bodies of 4,095 and 4,097 bytes, of 253 scopes and 254, with b couples between.
+    for (n, size, b, accepted) in [(5, 817, 1, true), (16, 253, 8, false), (33, 123, 1, false)] {
+        let (term, groups) = coupled_copies(n, size, b);
+        let declared = 2 * (1 + size) + 4 * b + 2 * n + 1;
+        let compared = 2 * (b as u64 + 1);
+        let numbers = if accepted { (0, 0, compared + 1, 1) } else { (11, 3 + declared, compared, 1) };
+        t.check("a body of about 4,096 bytes", file(&term, &groups), numbers);
+    }
+    for (m, b) in [(50, 1), (50, 100), (3, 200)] {
+        for (n, accepted) in [(251 - m - b, true), (252 - m - b, false)] {
+            let (term, groups) = coupled_scopes(m, n, b);
+            let declared = 2 * (2 * m + 1) + 4 * b + 2 * n + 7;
+            let compared = 2 * (b as u64 + 2);
+            let numbers = if accepted { (0, 0, compared + 1, 1) } else { (11, 3 + declared, compared, 1) };
+            t.check("a body of about 253 scopes", file(&term, &groups), numbers);
+        }
     }
 }

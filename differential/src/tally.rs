@@ -2,13 +2,17 @@
 
 use crate::call::{Answer, Call, Kind};
 use reference::file::read_fields;
-use reference::frame::SUBSTITUTION;
+use reference::frame::{apply_to_pairs, SUBSTITUTION};
+use reference::mistakes::set_aside;
+use reference::refusal::BAD_STEP;
+use reference::{apply_step_by, check_by};
 
 /// The last column is 'none'.
 const NUMBERS: usize = 17;
-/// The calls; then again the step calls of kind 3, and the checks of a file with a step of kind 3. Each with the numbers that
-/// some answer in its row must have.
-const ROWS: [(&str, &[usize]); 9] = [
+/// The calls; then again the step calls of kind 3, and the checks of a file with a step of kind 3; and the step calls, and every
+/// fifth check by the file's length, that would give 10 if steps took pairs only. Each with the numbers that some answer in its
+/// row must have.
+const ROWS: [(&str, &[usize]); 11] = [
     ("term", &[]),
     ("file", &[]),
     ("type", &[]),
@@ -18,10 +22,14 @@ const ROWS: [(&str, &[usize]); 9] = [
     ("count", &[0, 15]),
     ("step 3", &[0, 10, 11, 14]),
     ("with 3", &[0, 9, 10, 11, 12, 13]),
+    ("step c", &[0, 11, 14]),
+    ("with c", &[0, 9, 11, 12, 13]),
 ];
 const CHECK: usize = 4;
 const STEP_3: usize = 7;
 const WITH_3: usize = 8;
+const STEP_COUPLE: usize = 9;
+const WITH_COUPLES: usize = 10;
 const BUCKETS: [&str; 5] = ["0", "1", "2-5", "6-20", "more"];
 
 #[derive(Clone, Default)]
@@ -54,6 +62,17 @@ impl Tally {
         match call.kind {
             Kind::Step(SUBSTITUTION, _) => self.rows[STEP_3][number] += 1,
             Kind::Check if steps.clone().any(|step| step.kind == SUBSTITUTION) => self.rows[WITH_3][number] += 1,
+            _ => {}
+        }
+        match call.kind {
+            Kind::Step(kind, place) if number != 10 => {
+                let pairs = set_aside(|| apply_step_by(apply_to_pairs, &call.input, kind, place, &mut []));
+                self.rows[STEP_COUPLE][number] += u64::from(pairs.number == BAD_STEP);
+            }
+            Kind::Check if number != 10 && call.input.len().is_multiple_of(5) && steps.clone().count() > 0 => {
+                let pairs = set_aside(|| check_by(apply_to_pairs, &call.input));
+                self.rows[WITH_COUPLES][number] += u64::from(pairs.number == BAD_STEP);
+            }
             _ => {}
         }
         if let (Kind::Check, Some([0, _, comparisons, _])) = (call.kind, answer.numbers) {

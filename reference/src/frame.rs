@@ -75,138 +75,256 @@ pub const LOCAL: u8 = 1;
 pub const REMOVAL: u8 = 2;
 pub const SUBSTITUTION: u8 = 3;
 
+/// Which two items of a body's train a step takes together.
+#[derive(Clone, Copy, PartialEq, Eq, Debug)]
+pub enum Reach {
+    /// An applicator and the abstractor directly after it: document 01's pairs.
+    Pairs,
+    /// An applicator and the abstractor of its train that matches it as
+    /// brackets match: the couples of document 02.
+    Couples,
+}
+
 /// The body after the step; none if the kind is unknown, the place is past
 /// the body or the step's condition is unmet.
 pub fn apply(frame: &Frame, body: &Term, step: Step) -> Option<Term> {
+    match made(Mistake::PairsOnly) {
+        false => apply_within(Reach::Couples, frame, body, step),
+        true => apply_within(Reach::Pairs, frame, body, step),
+    }
+}
+
+/// The same where steps take pairs only, as before document 02's couples.
+pub fn apply_to_pairs(frame: &Frame, body: &Term, step: Step) -> Option<Term> {
+    apply_within(Reach::Pairs, frame, body, step)
+}
+
+/// The step on items that this reach takes together.
+fn apply_within<'a>(reach: Reach, frame: &'a Frame, body: &'a Term, step: Step) -> Option<Term> {
     if step.place >= body.size() {
         return None;
     }
     match step.kind {
         LOCAL => {
-            let mut ks = frame.iter().map(Entry::k).collect();
-            local(body, step.place, &mut ks, None)
+            let entries = frame.iter().enumerate();
+            let applicator = |(depth, entry): (usize, &'a Entry)| {
+                let k = entry.k()?;
+                Some(Applicator { k, depth })
+            };
+            let mut local = Local {
+                reach,
+                partners: entries.map(applicator).collect(),
+            };
+            let waiting = match made(Mistake::PartnerInTheFrame) {
+                false => Vec::new(),
+                true => local.partners.iter().flatten().copied().collect(),
+            };
+            local.step(body, step.place, waiting)
         }
-        REMOVAL => at_pair(body, step.place, without_pair),
+        REMOVAL => at_applicator(body, step.place, &|_, train| removed(reach, train)),
         SUBSTITUTION => {
             if made(Mistake::MeasuredOnTheWay) {
-                let on_the_way = at_pair(body, step.place, pair_kept)?;
+                let kept = |k: &Term, train: &Term| couple_kept(reach, k, train);
+                let on_the_way = at_applicator(body, step.place, &kept)?;
                 if body_outgrown(frame, &on_the_way) {
                     return Some(on_the_way);
                 }
             }
-            at_pair(body, step.place, substituted)
+            at_applicator(body, step.place, &|k, train| substituted(reach, k, train))
         }
         _ => None,
     }
 }
 
-/// The local step at `place` of `term`. `ks` has, for each abstractor in
-/// scope, outermost first, the K it is paired with, if any; `before` is the K
-/// of the applicator directly before `term` in its train, if any.
-fn local<'a>(
-    term: &'a Term,
-    place: usize,
-    ks: &mut Vec<Option<&'a Term>>,
-    before: Option<&'a Term>,
-) -> Option<Term> {
-    match term {
-        Tau => None,
-        Var(index) => {
-            // The k nearest abstractors hold the variable and not the
-            // applicator, so K is lifted by the index k.
-            let k = ks[ks.len() - *index as usize]?;
-            Some(k.lift(*index))
-        }
-        App(_) | Abs(_) if place == 0 => None,
-        App(item) => {
-            let (k, rest) = item.parts();
-            let inner = place - 1;
-            if inner < k.size() {
-                Some(app(local(k, inner, ks, None)?, rest.clone()))
-            } else {
-                let rest = local(rest, inner - k.size(), ks, Some(k))?;
+/// An applicator that is in the scope of `depth` abstractors.
+#[derive(Clone, Copy)]
+struct Applicator<'a> {
+    k: &'a Term,
+    depth: usize,
+}
+
+/// What a local step knows of the text around it.
+struct Local<'a> {
+    reach: Reach,
+    /// Of each abstractor in scope, outermost first, the applicator that it
+    /// goes with, if any.
+    partners: Vec<Option<Applicator<'a>>>,
+}
+
+impl<'a> Local<'a> {
+    /// The local step at `place` of `term`. `waiting` has the applicators
+    /// before `term` in its train that no abstractor has taken.
+    fn step(
+        &mut self,
+        term: &'a Term,
+        place: usize,
+        mut waiting: Vec<Applicator<'a>>,
+    ) -> Option<Term> {
+        let inside = |waiting: Vec<Applicator<'a>>| match made(Mistake::PartnerOutsideTheTrain) {
+            false => Vec::new(),
+            true => waiting,
+        };
+        match term {
+            Tau => None,
+            Var(index) => {
+                let depth = self.partners.len();
+                let partner = self.partners[depth - *index as usize]?;
+                // The abstractors that hold the variable and not the applicator.
+                let lift = match made(Mistake::LiftWithoutTheBetween) {
+                    false => depth - partner.depth,
+                    true => *index as usize,
+                };
+                Some(partner.k.lift(lift as u64))
+            }
+            App(_) | Abs(_) if place == 0 => None,
+            App(item) => {
+                let (k, rest) = item.parts();
+                let place = place - 1;
+                if place < k.size() {
+                    return Some(app(self.step(k, place, inside(waiting))?, rest.clone()));
+                }
+                let depth = self.partners.len();
+                waiting.push(Applicator { k, depth });
+                let rest = self.step(rest, place - k.size(), waiting)?;
                 Some(app(k.clone(), rest))
             }
-        }
-        Abs(item) => {
-            let (u, rest) = item.parts();
-            let inner = place - 1;
-            if inner < u.size() {
-                Some(abs(local(u, inner, ks, None)?, rest.clone()))
-            } else {
-                ks.push(before);
-                let rest = local(rest, inner - u.size(), ks, None);
-                ks.pop();
+            Abs(item) => {
+                let (u, rest) = item.parts();
+                let place = place - 1;
+                if place < u.size() {
+                    return Some(abs(self.step(u, place, inside(waiting))?, rest.clone()));
+                }
+                let first = made(Mistake::FirstWaitingTaken) && !waiting.is_empty();
+                self.partners.push(match first {
+                    false => waiting.pop(),
+                    true => Some(waiting.remove(0)),
+                });
+                if self.reach == Reach::Pairs {
+                    waiting.clear();
+                }
+                let rest = self.step(rest, place - u.size(), waiting);
+                self.partners.pop();
                 Some(abs(u.clone(), rest?))
             }
         }
     }
 }
 
-/// The term with its pair at `place` rewritten, by the pair's K and U and the
-/// rest after them.
-fn at_pair(
+/// The term with its train from the applicator at `place` on rewritten, by the
+/// applicator's K and the train after it.
+fn at_applicator(
     term: &Term,
     place: usize,
-    rewrite: fn(&Term, &Term, &Term) -> Option<Term>,
+    rewrite: &dyn Fn(&Term, &Term) -> Option<Term>,
 ) -> Option<Term> {
-    match term {
+    let (make, item): (fn(Term, Term) -> Term, _) = match term {
+        Tau | Var(_) => return None,
+        App(item) => (app, item),
+        Abs(item) => (abs, item),
+    };
+    let (inner, rest) = item.parts();
+    if place == 0 {
+        return match term {
+            App(_) => rewrite(inner, rest),
+            _ => None,
+        };
+    }
+    let place = place - 1;
+    if place < inner.size() {
+        let inner = at_applicator(inner, place, rewrite)?;
+        Some(make(inner, rest.clone()))
+    } else {
+        let rest = at_applicator(rest, place - inner.size(), rewrite)?;
+        Some(make(inner.clone(), rest))
+    }
+}
+
+/// The items passed on the way from an applicator to its partner.
+#[derive(Clone, Copy, Default)]
+struct Passed {
+    abstractors: u64,
+    /// Applicators that no abstractor has taken.
+    waiting: u64,
+}
+
+/// What becomes of an abstractor and the rest of its train, by the abstractors
+/// passed, its U and the rest after it.
+type AtPartner<'a> = dyn Fn(u64, &Term, &Term) -> Option<Term> + 'a;
+
+/// The train after an applicator, with the applicator's partner in it
+/// rewritten and what stands before that as it is; none if there is no partner.
+fn at_partner(reach: Reach, train: &Term, passed: Passed, rewrite: &AtPartner) -> Option<Term> {
+    let kept = |inner: &Term| match made(Mistake::BetweenLowered) {
+        true if !inner.uses(passed.abstractors + 1) => inner.without(passed.abstractors + 1),
+        _ => inner.clone(),
+    };
+    match train {
         Tau | Var(_) => None,
+        App(_) if reach == Reach::Pairs => None,
         App(item) => {
             let (k, rest) = item.parts();
-            if place == 0 {
-                let Abs(next) = rest else {
-                    return None;
-                };
-                let (u, rest) = next.parts();
-                return rewrite(k, u, rest);
-            }
-            let inside = place - 1;
-            if inside < k.size() {
-                Some(app(at_pair(k, inside, rewrite)?, rest.clone()))
-            } else {
-                let rest = at_pair(rest, inside - k.size(), rewrite)?;
-                Some(app(k.clone(), rest))
-            }
+            let passed = Passed {
+                waiting: passed.waiting + u64::from(!made(Mistake::NearestAbstractorTaken)),
+                ..passed
+            };
+            Some(app(kept(k), at_partner(reach, rest, passed, rewrite)?))
         }
-        Abs(_) if place == 0 => None,
+        Abs(item) if passed.waiting == 0 => {
+            let (u, rest) = item.parts();
+            rewrite(passed.abstractors, u, rest)
+        }
         Abs(item) => {
             let (u, rest) = item.parts();
-            let inside = place - 1;
-            if inside < u.size() {
-                Some(abs(at_pair(u, inside, rewrite)?, rest.clone()))
-            } else {
-                let rest = at_pair(rest, inside - u.size(), rewrite)?;
-                Some(abs(u.clone(), rest))
-            }
+            let passed = Passed {
+                abstractors: passed.abstractors + 1,
+                waiting: passed.waiting - 1,
+            };
+            Some(abs(kept(u), at_partner(reach, rest, passed, rewrite)?))
         }
     }
 }
 
-/// The removal of a pair: what is left, if its variable has no use.
-fn without_pair(_: &Term, _: &Term, rest: &Term) -> Option<Term> {
-    if rest.uses(1) {
-        None
-    } else if made(Mistake::RemovalKeepsIndices) {
-        Some(rest.clone())
-    } else {
-        Some(rest.without(1))
-    }
+/// The removal of a couple: what is left of the train after its applicator, if
+/// its variable has no use.
+fn removed(reach: Reach, train: &Term) -> Option<Term> {
+    at_partner(reach, train, Passed::default(), &|_, _, rest| {
+        if rest.uses(1) {
+            None
+        } else if made(Mistake::RemovalKeepsIndices) {
+            Some(rest.clone())
+        } else {
+            Some(rest.without(1))
+        }
+    })
 }
 
-/// The whole substitution of a pair: what is left.
-fn substituted(k: &Term, u: &Term, rest: &Term) -> Option<Term> {
+/// The whole substitution of a couple: what is left of the train after its
+/// applicator.
+fn substituted(reach: Reach, k: &Term, train: &Term) -> Option<Term> {
     if made(Mistake::PairKept) {
-        return pair_kept(k, u, rest);
+        return couple_kept(reach, k, train);
     }
-    if made(Mistake::SubstitutionNeedsAUse) && !rest.uses(1) {
-        return None;
-    }
-    Some(rest.substituted(1, k))
+    at_partner(reach, train, Passed::default(), &|passed, _, rest| {
+        if made(Mistake::SubstitutionNeedsAUse) && !rest.uses(1) {
+            return None;
+        }
+        Some(rest.substituted(1, &lifted_past(k, passed)))
+    })
 }
 
-/// A pair with every use of its variable replaced, before it is dropped.
-fn pair_kept(k: &Term, u: &Term, rest: &Term) -> Option<Term> {
-    let replaced = rest.substituted(1, k).lift(1);
-    Some(app(k.clone(), abs(u.clone(), replaced)))
+/// A couple with every use of its variable replaced, before it is dropped.
+fn couple_kept(reach: Reach, k: &Term, train: &Term) -> Option<Term> {
+    let after = at_partner(reach, train, Passed::default(), &|passed, u, rest| {
+        let replaced = rest.substituted(1, &lifted_past(k, passed)).lift(1);
+        Some(abs(u.clone(), replaced))
+    })?;
+    Some(app(k.clone(), after))
+}
+
+/// K as it stands right before its partner.
+fn lifted_past(k: &Term, passed: u64) -> Term {
+    match made(Mistake::LiftWithoutTheBetween) {
+        false => k.lift(passed),
+        true => k.clone(),
+    }
 }

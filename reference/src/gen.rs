@@ -2,9 +2,12 @@
 //! terms and files at the limits.
 
 use crate::file::Group;
-use crate::frame::{type_of, type_of_variable, Entry, Frame, Step, LOCAL, REMOVAL, SUBSTITUTION};
+use crate::frame::{
+    type_of, type_of_variable, Entry, Frame, Reach, Step, LOCAL, REMOVAL, SUBSTITUTION,
+};
 use crate::normaliser::{
-    equivalent, groups_for, in_parts, possible_steps, reduce, substitutions, Order, Pairs,
+    equivalent, groups_for, groups_with_stray_steps, in_parts, possible_steps, reduce,
+    substitutions, Manner, Order, Reduction,
 };
 use crate::rng::Rng;
 use crate::term::{abs, app, read_term, Term, Term::*};
@@ -120,9 +123,81 @@ fn with_uses(rng: &mut Rng, term: &Term, index: u64, of_four: usize) -> Term {
     }
 }
 
+/// An item of a train by its sort alone.
+#[derive(Clone, Copy, PartialEq, Eq, Debug)]
+pub enum Wagon {
+    Applicator,
+    Abstractor,
+}
+
+/// A word of so many couples, nested and side by side: with four of them, up to
+/// six items stand between the two of a couple.
+fn coupled_word(rng: &mut Rng, couples: usize) -> Vec<Wagon> {
+    if couples == 0 {
+        return Vec::new();
+    }
+    let between = rng.below(couples);
+    let mut word = vec![Wagon::Applicator];
+    word.extend(coupled_word(rng, between));
+    word.push(Wagon::Abstractor);
+    word.extend(coupled_word(rng, couples - 1 - between));
+    word
+}
+
+/// A word with one to four couples, sometimes unmatched abstractors and others
+/// before them, and unmatched applicators and others after them.
+fn train_word(rng: &mut Rng) -> Vec<Wagon> {
+    let mut word = Vec::new();
+    for _ in 0..rng.below(3) {
+        let couples = rng.below(2);
+        word.extend(coupled_word(rng, couples));
+        word.push(Wagon::Abstractor);
+    }
+    let couples = rng.between(1, 4);
+    word.extend(coupled_word(rng, couples));
+    for _ in 0..rng.below(3) {
+        word.push(Wagon::Applicator);
+        let couples = rng.below(2);
+        word.extend(coupled_word(rng, couples));
+    }
+    word
+}
+
+/// A closed term with couples in its train, or in that of an item.
+pub fn coupled_term(rng: &mut Rng) -> Term {
+    let depth = *rng.pick(&[0, 1, 2, 3, 240]);
+    let word = train_word(rng);
+    let term = train_after(rng, &word, depth);
+    (0..depth).fold(term, |rest, _| abs(Tau, rest))
+}
+
+/// A train of this word, with something small in its items and after them.
+pub fn train_after(rng: &mut Rng, word: &[Wagon], depth: u64) -> Term {
+    let size = *rng.pick(&[1, 1, 1, 3, 5]);
+    let Some((first, rest)) = word.split_first() else {
+        return closed_after(rng, size, depth);
+    };
+    let inner = match rng.below(16) {
+        0 => train_after(
+            rng,
+            &[Wagon::Applicator, Wagon::Applicator, Wagon::Abstractor],
+            depth,
+        ),
+        1 => {
+            let word = coupled_word(rng, 2);
+            train_after(rng, &word, depth)
+        }
+        _ => closed_after(rng, size, depth),
+    };
+    match first {
+        Wagon::Applicator => app(inner, train_after(rng, rest, depth)),
+        Wagon::Abstractor => abs(inner, train_after(rng, rest, depth + 1)),
+    }
+}
+
 /// A bare term for the calls that take one: text, closed term, or damaged.
 pub fn bare_term(rng: &mut Rng) -> Vec<u8> {
-    match rng.below(11) {
+    match rng.below(13) {
         0..=3 => {
             let size = 2 * rng.below(40) + 1;
             closed_term(rng, size).bytes()
@@ -135,17 +210,18 @@ pub fn bare_term(rng: &mut Rng) -> Vec<u8> {
         }
         8 => limit_term(rng),
         9 => pair_term(rng).bytes(),
+        10..=11 => coupled_term(rng).bytes(),
         _ => (0..rng.below(8)).map(|_| odd_byte(rng)).collect(),
     }
 }
 
 /// A step for a bare term: a possible one, one near it, or any. For half of the
-/// terms with a pair it is a substitution.
+/// terms with a couple it is a substitution.
 pub fn step_for(rng: &mut Rng, bytes: &[u8]) -> (u8, u16) {
     let steps = match read_term(bytes) {
         Ok(term) => match substitutions(&term) {
             whole if !whole.is_empty() && rng.below(2) == 0 => whole,
-            _ => possible_steps(&Frame::new(), &term, Pairs::InParts),
+            _ => possible_steps(&Frame::new(), &term, Manner::InParts, Reach::Couples),
         },
         Err(_) => Vec::new(),
     };
@@ -192,6 +268,31 @@ pub fn text(rng: &mut Rng) -> Term {
     Maker { rng }.text(lines)
 }
 
+/// A short text that ends in [z:T]⟨z⟩[T']τ, where T has couples and T' is
+/// equivalent.
+fn coupled_text(rng: &mut Rng) -> Term {
+    let lines = rng.between(1, 4);
+    let mut maker = Maker { rng };
+    let mut frame = maker.frame(lines);
+    let mut t = maker.term(&frame, 1);
+    for _ in 0..maker.rng.between(1, 2) {
+        t = maker.after_couples(&frame, t);
+    }
+    frame.push(Entry::Single(t.clone()));
+    let mut other = t.lift(1);
+    for _ in 0..maker.rng.between(1, 3) {
+        other = match maker.rng.below(2) {
+            0 => maker.disguise(&frame, other),
+            _ => {
+                let bodies = maker.reduced(&frame, &other).bodies;
+                maker.rng.pick(&bodies).clone()
+            }
+        };
+    }
+    frame.push(Entry::Pair(Var(1), other));
+    before(frame, Tau)
+}
+
 /// Texts are kept below these sizes.
 const TEXT_BYTES: usize = 1500;
 const LINE_BYTES: usize = 120;
@@ -205,6 +306,16 @@ type Line = Entry;
 
 impl Maker<'_> {
     fn text(&mut self, lines: usize) -> Term {
+        let frame = self.frame(lines);
+        let end = self.term(&frame, 2);
+        frame.into_iter().rev().fold(end, |rest, line| match line {
+            Entry::Single(u) => abs(u, rest),
+            Entry::Pair(k, u) => self.before_pair(k, u, rest),
+        })
+    }
+
+    /// A first [τ] and so many lines after it, as far as there is room.
+    fn frame(&mut self, lines: usize) -> Frame {
         let mut frame: Frame = vec![Entry::Single(Tau)];
         let mut bytes = 2;
         while frame.len() <= lines && bytes < TEXT_BYTES {
@@ -217,11 +328,7 @@ impl Maker<'_> {
                 frame.push(Entry::Single(Tau));
             }
         }
-        let end = self.term(&frame, 2);
-        frame.into_iter().rev().fold(end, |rest, line| match line {
-            Entry::Single(u) => abs(u, rest),
-            Entry::Pair(k, u) => self.before_pair(k, u, rest),
-        })
+        frame
     }
 
     /// ⟨K⟩[U] and the rest. If the rest begins with an applicator that does not
@@ -355,16 +462,20 @@ impl Maker<'_> {
         Some((k, disguised))
     }
 
+    fn reduced(&mut self, frame: &Frame, term: &Term) -> Reduction {
+        let (order, manner) = (Order::RemovalFirst, Manner::InParts);
+        reduce(frame, term, order, manner, Reach::Couples, self.rng)
+    }
+
     /// Another correct term that is equivalent.
     fn disguise(&mut self, frame: &Frame, term: Term) -> Term {
         if term.size() > LINE_BYTES {
             return term;
         }
-        match self.rng.below(7) {
+        match self.rng.below(8) {
             0 => {
                 // Somewhere on the way to its normal form.
-                let bodies =
-                    reduce(frame, &term, Order::RemovalFirst, Pairs::InParts, self.rng).bodies;
+                let bodies = self.reduced(frame, &term).bodies;
                 self.rng.pick(&bodies).clone()
             }
             1 => {
@@ -393,6 +504,7 @@ impl Maker<'_> {
                     _ => term,
                 }
             }
+            4 => self.after_couples(frame, term),
             _ => {
                 // With the name of a definition for its K.
                 let index = self.any_index(frame);
@@ -400,6 +512,57 @@ impl Maker<'_> {
                     Some(k) => self.fold(&term, &k.lift(index), index),
                     None => term,
                 }
+            }
+        }
+    }
+
+    /// The term with couples put into its train, after some of its applicators,
+    /// and sometimes with the names that they define.
+    fn after_couples(&mut self, frame: &Frame, term: Term) -> Term {
+        if let App(item) = &term {
+            if self.rng.below(2) == 0 {
+                let (k, rest) = item.parts();
+                return app(k.clone(), self.after_couples(frame, rest.clone()));
+            }
+        }
+        let couples = self.rng.between(1, 4);
+        let word = coupled_word(self.rng, couples);
+        self.after_word(&mut frame.clone(), &word, &mut Vec::new(), term)
+    }
+
+    /// The term after a coupled word, made of definitions. `waiting` has those
+    /// whose abstractor is due, as they stand after the frame.
+    fn after_word(
+        &mut self,
+        frame: &mut Frame,
+        word: &[Wagon],
+        waiting: &mut Vec<(Term, Term)>,
+        term: Term,
+    ) -> Term {
+        let Some((first, word)) = word.split_first() else {
+            return term;
+        };
+        match first {
+            Wagon::Applicator => {
+                let (k, u) = match self.definition(frame, 1) {
+                    Some(definition) => definition,
+                    None => {
+                        let k = Var(self.any_index(frame));
+                        let u = type_of(frame, &k).expect("a variable has a type");
+                        (k, u)
+                    }
+                };
+                waiting.push((k.clone(), u));
+                app(k, self.after_word(frame, word, waiting, term))
+            }
+            Wagon::Abstractor => {
+                let (k, u) = waiting.pop().expect("the word is coupled");
+                let named = self.fold(&term.lift(1), &k.lift(1), 1);
+                frame.push(Entry::Pair(k, u.clone()));
+                for (k, u) in waiting.iter_mut() {
+                    (*k, *u) = (k.lift(1), u.lift(1));
+                }
+                abs(u, self.after_word(frame, word, waiting, named))
             }
         }
     }
@@ -426,7 +589,7 @@ impl Maker<'_> {
 
     /// A correct term with this type, if one is found soon.
     fn inhabitant(&mut self, frame: &Frame, wanted: &Term, fuel: usize) -> Option<Term> {
-        let goal = reduce(frame, wanted, Order::RemovalFirst, Pairs::InParts, self.rng);
+        let goal = self.reduced(frame, wanted);
         let first = self.rng.below(frame.len().max(1));
         for i in 0..frame.len() {
             let index = 1 + ((first + i) % frame.len()) as u64;
@@ -636,7 +799,7 @@ fn joined(parts: &[&[u8]]) -> Vec<u8> {
 
 /// A bare term at a limit.
 pub fn limit_term(rng: &mut Rng) -> Vec<u8> {
-    match rng.below(10) {
+    match rng.below(13) {
         // About 4,096 bytes: a train, a nest.
         0 => {
             let item = *rng.pick(&[0xfe, 0xff]);
@@ -728,11 +891,59 @@ pub fn limit_term(rng: &mut Rng) -> Vec<u8> {
                 &[1],
             ])
         }
+        // A step over a couple to about 4,096 bytes: ⟨K⟩, couples, [τ] and uses.
+        9 => {
+            let n = rng.between(1000, 1030);
+            let couples = rng.below(8);
+            joined(&[
+                &[0xfe],
+                &nested(n),
+                &nested_couples(couples),
+                &[0xff, 0],
+                &[0xff, 1],
+                &nested(n - 2 - 2 * couples),
+                &[0],
+            ])
+        }
+        // A step over a couple with about 253 in scope: ⟨m abstractors⟩, couples,
+        // [τ], n abstractors, use.
+        10 => {
+            let m = rng.between(1, 200);
+            let couples = rng.between(1, 252 - m);
+            let n = (252 - m - couples) + rng.between(0, 2);
+            joined(&[
+                &[0xfe],
+                &times(m, &[0xff, 0]),
+                &[0],
+                &nested_couples(couples),
+                &[0xff, 0],
+                &times(n, &[0xff, 0]),
+                &[n as u8 + 1],
+            ])
+        }
+        // About 253 couples in a train, nested or side by side, after a [τ].
+        11 => {
+            let n = rng.between(1, 253);
+            let couples = match rng.below(2) {
+                0 => nested_couples(n),
+                _ => times(n, &[0xfe, 1, 0xff, 0]),
+            };
+            joined(&[
+                &[0xff, 0],
+                &couples,
+                &[rng.between(1, n + 1).min(253) as u8],
+            ])
+        }
         _ => {
             let size = 2 * rng.between(200, 2047) + 1;
             closed_term(rng, size).bytes()
         }
     }
+}
+
+/// So many couples nested in each other: ⟨τ⟩..⟨τ⟩[τ]..[τ].
+pub fn nested_couples(n: usize) -> Vec<u8> {
+    joined(&[&times(n, &[0xfe, 0]), &times(n, &[0xff, 0])])
 }
 
 /// About 253 abstractors in a train, with a variable or τ at its end; bare,
@@ -753,7 +964,7 @@ fn abstracted(first: u8, copies: usize) -> Vec<u8> {
 }
 
 /// How many sorts of files at a limit there are.
-pub const LIMIT_SORTS: usize = 20;
+pub const LIMIT_SORTS: usize = 22;
 
 /// A file at a limit.
 pub fn limit_file(rng: &mut Rng) -> Vec<u8> {
@@ -1029,6 +1240,25 @@ pub fn limit_file_of(rng: &mut Rng, sort: usize) -> Vec<u8> {
             let (term, groups) = substituted_scopes(m, n);
             substituted_file(rng, &term, groups)
         }
+        // The same two over couples, with others nested between.
+        19 => {
+            let (copies, size, between) = *rng.pick(&[
+                (5, 817, 1),
+                (33, 123, 1),
+                (29, 139, 8),
+                (62, 65, 1),
+                (63, 63, 16),
+            ]);
+            let (term, groups) = coupled_copies(copies, size, between);
+            substituted_file(rng, &term, groups)
+        }
+        20 => {
+            let m = rng.between(3, 60);
+            let between = rng.between(1, 100);
+            let n = 250 - m - between + rng.below(3);
+            let (term, groups) = coupled_scopes(m, n, between);
+            substituted_file(rng, &term, groups)
+        }
         // About 253 abstractors in the term itself.
         _ => file(&deep_train(rng), &[]),
     }
@@ -1104,20 +1334,28 @@ pub fn stepped_copies(copies: usize, size: usize) -> (Vec<u8>, Vec<Group>) {
 /// variable d, where D = [V]x of `size` bytes has the type E = [V]τ, and a
 /// definition of the same type; D is substituted on both sides.
 pub fn substituted_copies(copies: usize, size: usize) -> (Vec<u8>, Vec<Group>) {
+    coupled_copies(copies, size, 0)
+}
+
+/// The same with so many nested couples ⟨x⟩..[τ].. between ⟨D⟩ and [E].
+pub fn coupled_copies(copies: usize, size: usize, between: usize) -> (Vec<u8>, Vec<Group>) {
     let v = nested((size - 3) / 2);
     let declared = |x: u8| {
         joined(&[
             &[0xfe, 0xff],
             &v,
-            &[x + 1, 0xff, 0xff],
+            &[x + 1],
+            &times(between, &[0xfe, x]),
+            &times(between, &[0xff, 0]),
+            &[0xff, 0xff],
             &v,
             &[0],
             &abstracted(1, copies),
             &[0],
         ])
     };
-    let mut groups = empty_groups(3);
-    groups[2] = both(SUBSTITUTION);
+    let mut groups = empty_groups(2 * (between + 1));
+    groups.push(both(SUBSTITUTION));
     (declared_and_defined(declared), groups)
 }
 
@@ -1126,6 +1364,12 @@ pub fn substituted_copies(copies: usize, size: usize) -> (Vec<u8>, Vec<Group>) {
 /// and a definition of the same type; D is substituted on both sides, to
 /// 2 + m + n scopes.
 pub fn substituted_scopes(m: usize, n: usize) -> (Vec<u8>, Vec<Group>) {
+    coupled_scopes(m, n, 0)
+}
+
+/// The same with so many nested couples ⟨x⟩..[τ].. between ⟨D⟩ and [τ]: as many
+/// scopes more.
+pub fn coupled_scopes(m: usize, n: usize, between: usize) -> (Vec<u8>, Vec<Group>) {
     let deep = times(m, &[0xff, 0]);
     let declared = |x: u8| {
         joined(&[
@@ -1133,16 +1377,17 @@ pub fn substituted_scopes(m: usize, n: usize) -> (Vec<u8>, Vec<Group>) {
             &deep,
             &[m as u8 + x, 0xff],
             &deep,
-            &[0, x + 1, 0xff, 0],
+            &[0, x + 1],
+            &times(between, &[0xfe, x]),
+            &times(between, &[0xff, 0]),
+            &[0xff, 0],
             &times(n, &[0xff, 0]),
             &[n as u8 + 1],
         ])
     };
-    let mut groups = empty_groups(5);
-    for i in [1, 3] {
-        groups[i].left = both(REMOVAL).left;
-    }
-    groups[4] = both(SUBSTITUTION);
+    let mut of_declared = empty_groups(between + 2);
+    of_declared[between + 1].left = both(REMOVAL).left;
+    let groups = [of_declared.clone(), of_declared, vec![both(SUBSTITUTION)]].concat();
     (declared_and_defined(declared), groups)
 }
 
@@ -1171,7 +1416,7 @@ fn substituted_file(rng: &mut Rng, term: &[u8], mut groups: Vec<Group>) -> Vec<u
         },
         _ => None,
     };
-    let parts = parts.expect("T begins with a pair");
+    let parts = parts.expect("T begins with a couple");
     let last = groups.len() - 1;
     match rng.below(8) {
         0 => groups[last].left = parts,
@@ -1211,13 +1456,25 @@ pub fn long_unfolding(chain: usize, uses: usize) -> (Vec<u8>, Vec<Group>) {
 /// A random file of any sort.
 pub fn random_file(rng: &mut Rng) -> Vec<u8> {
     match rng.below(100) {
-        0..=39 => {
+        0..=4 => {
+            let term = coupled_text(rng);
+            let mut groups = groups_for(&term, rng);
+            if rng.below(4) == 0 {
+                damage_groups(rng, &mut groups);
+            }
+            file(&term.bytes(), &groups)
+        }
+        5..=39 => {
             let term = text(rng);
             let groups = groups_for(&term, rng);
             file(&term.bytes(), &groups)
         }
         40..=57 => {
             let term = text(rng);
+            if rng.below(4) == 0 {
+                let groups = groups_with_stray_steps(&term, rng);
+                return file(&term.bytes(), &groups);
+            }
             let mut groups = groups_for(&term, rng);
             for _ in 0..rng.between(1, 2) {
                 damage_groups(rng, &mut groups);

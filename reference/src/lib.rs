@@ -1,7 +1,7 @@
 //! A reference implementation of the checker of document 01 ("Delta-Lambda
-//! checking with supplied reductions") with document 02's kind 3, printing and
-//! counting, written for clarity: terms are trees that keep their size, the
-//! lists are lifted literally and every state is measured anew.
+//! checking with supplied reductions") with document 02's kind 3, printing,
+//! counting and couples, written for clarity: terms are trees that keep their
+//! size, the lists are lifted literally and every state is measured anew.
 
 pub mod counts;
 pub mod file;
@@ -132,6 +132,17 @@ pub fn write_type(bytes: &[u8], buffer: &mut [u8]) -> TypeAnswer {
 
 /// Applies one step to a bare term, writing the result at the buffer's start.
 pub fn apply_step(bytes: &[u8], kind: u8, place: u16, buffer: &mut [u8]) -> StepAnswer {
+    apply_step_by(apply, bytes, kind, place, buffer)
+}
+
+/// Applies one step as `apply` does.
+pub fn apply_step_by(
+    apply: Apply,
+    bytes: &[u8],
+    kind: u8,
+    place: u16,
+    buffer: &mut [u8],
+) -> StepAnswer {
     on_large_stack(|| {
         let step = Step {
             kind,

@@ -63,11 +63,31 @@ pub enum Mistake {
     LengthIn32Bits,
     /// 15 comes with the counts of length 7.
     CountsWith15,
+    /// Steps take pairs alone.
+    PairsOnly,
+    /// In a local step an abstractor takes the first applicator that waits,
+    /// and not the last, so that unmatched ones may stand between.
+    FirstWaitingTaken,
+    /// In removals and substitutions an applicator takes the nearest abstractor
+    /// after it, so that unmatched applicators may stand between.
+    NearestAbstractorTaken,
+    /// Removals and substitutions lower indices between the two items too.
+    BetweenLowered,
+    /// K is not lifted by the abstractors between the two items.
+    LiftWithoutTheBetween,
+    /// In a local step an abstractor inside an item may take an applicator
+    /// before that item.
+    PartnerOutsideTheTrain,
+    /// In a local step an abstractor of the body may take an applicator of the
+    /// frame.
+    PartnerInTheFrame,
+    /// In a local step an abstractor of the body may take an applicator of W.
+    PartnerInW,
 }
 
 use Mistake::*;
 
-pub const MISTAKES: [Mistake; 29] = [
+pub const MISTAKES: [Mistake; 37] = [
     WaitingNotLifted,
     TakesFromWFirst,
     OutgrownAfterTheRule,
@@ -97,6 +117,14 @@ pub const MISTAKES: [Mistake; 29] = [
     EightNotRefused,
     LengthIn32Bits,
     CountsWith15,
+    PairsOnly,
+    FirstWaitingTaken,
+    NearestAbstractorTaken,
+    BetweenLowered,
+    LiftWithoutTheBetween,
+    PartnerOutsideTheTrain,
+    PartnerInTheFrame,
+    PartnerInW,
 ];
 
 #[cfg(not(feature = "mistakes"))]

@@ -1,14 +1,14 @@
 //! Finds steps. Only the generator uses it; the checker never searches.
 
 use crate::file::Group;
-use crate::frame::{apply, body_outgrown, Entry, Frame, Step, LOCAL, REMOVAL, SUBSTITUTION};
+use crate::frame::{apply, body_outgrown, Entry, Frame, Reach, Step, LOCAL, REMOVAL, SUBSTITUTION};
 use crate::rng::Rng;
 use crate::term::{Term, Term::*};
 use crate::walk::walk;
 
-/// How an author does away with a pair of the body.
+/// How an author does away with a couple of the body.
 #[derive(Clone, Copy, PartialEq, Eq, Debug)]
-pub enum Pairs {
+pub enum Manner {
     /// By a local step at each use and then the removal.
     InParts,
     /// By the whole substitution.
@@ -17,63 +17,69 @@ pub enum Pairs {
 
 /// The steps that can be applied to the body, from left to right: every local
 /// step, and every removal or every substitution.
-pub fn possible_steps(frame: &Frame, body: &Term, pairs: Pairs) -> Vec<Step> {
+pub fn possible_steps(frame: &Frame, body: &Term, manner: Manner, reach: Reach) -> Vec<Step> {
     let mut found = Found {
-        paired: frame
+        coupled: frame
             .iter()
             .map(|entry| matches!(entry, Entry::Pair(_, _)))
             .collect(),
-        pairs,
+        manner,
+        reach,
         steps: Vec::new(),
     };
-    found.collect(body, 0, false);
+    found.collect(body, 0, 0);
     found.steps
 }
 
 /// Every substitution that can be applied to the body, from left to right.
 pub fn substitutions(body: &Term) -> Vec<Step> {
-    let mut steps = possible_steps(&Frame::new(), body, Pairs::Whole);
+    let mut steps = possible_steps(&Frame::new(), body, Manner::Whole, Reach::Couples);
     steps.retain(|step| step.kind == SUBSTITUTION);
     steps
 }
 
 struct Found {
-    /// Of each abstractor in scope, whether it is paired.
-    paired: Vec<bool>,
-    pairs: Pairs,
+    /// Of each abstractor in scope, whether it goes with an applicator.
+    coupled: Vec<bool>,
+    manner: Manner,
+    reach: Reach,
     steps: Vec<Step>,
 }
 
 impl Found {
-    /// `applied` says whether an applicator stands directly before the term.
-    /// Gives the place after the term.
-    fn collect(&mut self, term: &Term, at: usize, applied: bool) -> usize {
+    /// `waiting` counts the applicators before the term in its train that may
+    /// still be taken. Gives the place after the term.
+    fn collect(&mut self, term: &Term, at: usize, waiting: usize) -> usize {
         match term {
             Tau => at + 1,
             Var(index) => {
-                if self.paired[self.paired.len() - *index as usize] {
+                if self.coupled[self.coupled.len() - *index as usize] {
                     self.push(LOCAL, at);
                 }
                 at + 1
             }
             App(item) => {
                 let (k, rest) = item.parts();
-                if let Abs(next) = rest {
-                    match self.pairs {
-                        Pairs::Whole => self.push(SUBSTITUTION, at),
-                        Pairs::InParts if next.parts().1.uses(1) => {}
-                        Pairs::InParts => self.push(REMOVAL, at),
+                if let Some(after) = after_partner(rest, self.reach) {
+                    match self.manner {
+                        Manner::Whole => self.push(SUBSTITUTION, at),
+                        Manner::InParts if after.uses(1) => {}
+                        Manner::InParts => self.push(REMOVAL, at),
                     }
                 }
-                let after = self.collect(k, at + 1, false);
-                self.collect(rest, after, true)
+                let after = self.collect(k, at + 1, 0);
+                self.collect(rest, after, waiting + 1)
             }
             Abs(item) => {
                 let (u, rest) = item.parts();
-                let after = self.collect(u, at + 1, false);
-                self.paired.push(applied);
-                let after = self.collect(rest, after, false);
-                self.paired.pop();
+                let after = self.collect(u, at + 1, 0);
+                self.coupled.push(waiting > 0);
+                let waiting = match self.reach {
+                    Reach::Pairs => 0,
+                    Reach::Couples => waiting.saturating_sub(1),
+                };
+                let after = self.collect(rest, after, waiting);
+                self.coupled.pop();
                 after
             }
         }
@@ -84,12 +90,33 @@ impl Found {
     }
 }
 
+/// The rest after the abstractor that goes with an applicator right before
+/// this train.
+fn after_partner(mut train: &Term, reach: Reach) -> Option<&Term> {
+    let mut waiting = 0;
+    loop {
+        let rest = match train {
+            Tau | Var(_) => return None,
+            App(item) | Abs(item) => item.parts().1,
+        };
+        match train {
+            Abs(_) if waiting == 0 => return Some(rest),
+            Abs(_) => waiting -= 1,
+            _ if reach == Reach::Pairs => return None,
+            _ => waiting += 1,
+        }
+        train = rest;
+    }
+}
+
 /// The substitution at `place` in parts: a local step at each use, from left
-/// to right, then the removal; none if there is no pair.
+/// to right, then the removal; none if there is no couple.
 pub fn in_parts(body: &Term, place: usize) -> Option<Vec<Step>> {
-    let (k, u, rest) = pair_at(body, place)?;
+    let (k, train) = applicator_at(body, place)?;
+    let rest = after_partner(train, Reach::Couples)?;
+    let after = place + 1 + k.size() + train.size() - rest.size();
     let mut uses = Vec::new();
-    collect_uses(rest, place + 2 + k.size() + u.size(), 1, &mut uses);
+    collect_uses(rest, after, 1, &mut uses);
     let mut steps: Vec<Step> = uses
         .iter()
         .enumerate()
@@ -105,20 +132,17 @@ pub fn in_parts(body: &Term, place: usize) -> Option<Vec<Step>> {
     Some(steps)
 }
 
-/// The K and U of the pair at `place`, and the rest after them.
-fn pair_at(term: &Term, place: usize) -> Option<(&Term, &Term, &Term)> {
+/// The K of the applicator at `place`, and the train after it.
+fn applicator_at(term: &Term, place: usize) -> Option<(&Term, &Term)> {
     let (App(item) | Abs(item)) = term else {
         return None;
     };
     let (inner, rest) = item.parts();
-    match (term, rest) {
-        (App(_), Abs(next)) if place == 0 => {
-            let (u, rest) = next.parts();
-            Some((inner, u, rest))
-        }
+    match term {
+        App(_) if place == 0 => Some((inner, rest)),
         _ if place == 0 => None,
-        _ if place - 1 < inner.size() => pair_at(inner, place - 1),
-        _ => pair_at(rest, place - 1 - inner.size()),
+        _ if place - 1 < inner.size() => applicator_at(inner, place - 1),
+        _ => applicator_at(rest, place - 1 - inner.size()),
     }
 }
 
@@ -175,7 +199,14 @@ const MAX_WORK: usize = 60_000;
 
 /// Reduces until no step is possible, the next body would be outgrown, or a
 /// limit of the search is met.
-pub fn reduce(frame: &Frame, body: &Term, order: Order, pairs: Pairs, rng: &mut Rng) -> Reduction {
+pub fn reduce(
+    frame: &Frame,
+    body: &Term,
+    order: Order,
+    manner: Manner,
+    reach: Reach,
+    rng: &mut Rng,
+) -> Reduction {
     let mut reduction = Reduction {
         bodies: vec![body.clone()],
         steps: Vec::new(),
@@ -186,7 +217,7 @@ pub fn reduce(frame: &Frame, body: &Term, order: Order, pairs: Pairs, rng: &mut 
     }
     while reduction.steps.len() < MAX_STEPS && work < MAX_WORK {
         let last = reduction.bodies.last().expect("there is a first body");
-        let steps = possible_steps(frame, last, pairs);
+        let steps = possible_steps(frame, last, manner, reach);
         if steps.is_empty() {
             break;
         }
@@ -232,27 +263,76 @@ pub fn meet(left: &Reduction, right: &Reduction, far: bool) -> Option<(Vec<Step>
 
 /// Whether the body is seen to reach a term of the other reduction.
 pub fn equivalent(frame: &Frame, body: &Term, wanted: &Reduction, rng: &mut Rng) -> bool {
-    let own = reduce(frame, body, Order::RemovalFirst, Pairs::InParts, rng);
+    let own = reduce(
+        frame,
+        body,
+        Order::RemovalFirst,
+        Manner::InParts,
+        Reach::Couples,
+        rng,
+    );
     meet(&own, wanted, false).is_some()
 }
 
 /// Groups for every comparison of a walk over the closed term, in the walk's
 /// order, as far as it goes. A comparison whose bodies are not seen to meet
 /// gets an empty group or the steps that were tried. In half of the files the
-/// pairs of a body are substituted whole.
+/// couples of a body are substituted whole, and in one of four the author
+/// keeps to pairs.
 pub fn groups_for(term: &Term, rng: &mut Rng) -> Vec<Group> {
+    groups_by(term, rng, |_, _, group, _| group)
+}
+
+/// The same, where one comparison in four begins with a local step at any
+/// variable of one of its bodies.
+pub fn groups_with_stray_steps(term: &Term, rng: &mut Rng) -> Vec<Group> {
+    groups_by(term, rng, |type_of_k, u, mut group, rng| {
+        let (body, steps) = match rng.below(8) {
+            0 => (type_of_k, &mut group.left),
+            1 => (u, &mut group.right),
+            _ => return group,
+        };
+        let variables = places_of_variables(body);
+        if !variables.is_empty() {
+            let place = *rng.pick(&variables);
+            steps.insert(0, Step { kind: LOCAL, place });
+        }
+        group
+    })
+}
+
+fn places_of_variables(term: &Term) -> Vec<usize> {
+    let mut at = 0;
+    let mut places = Vec::new();
+    term.each_symbol(&mut |symbol| {
+        if let Var(_) = symbol {
+            places.push(at);
+        }
+        at += 1;
+    });
+    places
+}
+
+/// What becomes of the group for a comparison: told the type of K and U.
+type Change = fn(&Term, &Term, Group, &mut Rng) -> Group;
+
+fn groups_by(term: &Term, rng: &mut Rng, change: Change) -> Vec<Group> {
     let mut groups = Vec::new();
-    let pairs = *rng.pick(&[Pairs::InParts, Pairs::Whole]);
+    let manner = *rng.pick(&[Manner::InParts, Manner::Whole]);
+    let reach = match rng.below(4) {
+        0 => Reach::Pairs,
+        _ => Reach::Couples,
+    };
     // How the walk ends is for the check to tell.
     let _ = walk(term, &mut |frame, type_of_k, u| {
-        let (left, right) = steps_for(frame, type_of_k, u, pairs, rng);
+        let (left, right) = steps_for(frame, type_of_k, u, manner, reach, rng);
         let group = Group {
             head: 0,
             left,
             right,
         };
-        groups.push(group.clone());
-        Some(group)
+        groups.push(change(type_of_k, u, group, rng));
+        groups.last().cloned()
     });
     groups
 }
@@ -261,7 +341,8 @@ fn steps_for(
     frame: &Frame,
     type_of_k: &Term,
     u: &Term,
-    pairs: Pairs,
+    manner: Manner,
+    reach: Reach,
     rng: &mut Rng,
 ) -> (Vec<Step>, Vec<Step>) {
     if body_outgrown(frame, type_of_k) || (type_of_k == u && rng.below(10) > 0) {
@@ -270,8 +351,8 @@ fn steps_for(
     let far = rng.below(4) == 0;
     let order = *rng.pick(&ORDERS);
     for order in [order, Order::RemovalFirst] {
-        let left = reduce(frame, type_of_k, order, pairs, rng);
-        let right = reduce(frame, u, order, pairs, rng);
+        let left = reduce(frame, type_of_k, order, manner, reach, rng);
+        let right = reduce(frame, u, order, manner, reach, rng);
         if let Some(found) = meet(&left, &right, far) {
             return found;
         }

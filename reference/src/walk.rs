@@ -4,7 +4,7 @@ use crate::file::Group;
 use crate::frame::{apply, body_outgrown, type_of, type_of_variable, Entry, Frame, Step};
 use crate::mistakes::{made, Mistake};
 use crate::refusal::*;
-use crate::term::{Term, Term::*, MAX_SCOPE};
+use crate::term::{app, Term, Term::*, MAX_SCOPE};
 
 /// R, W, Y and B together are no larger.
 pub const MAX_STATE_BYTES: usize = 8192;
@@ -87,7 +87,7 @@ impl Walk<'_, '_> {
                     match w.pop() {
                         None => r.push(Entry::Single(u.clone())),
                         Some(last) => {
-                            self.compare(r, &last, u)?;
+                            self.compare(r, &w, &last, u)?;
                             r.push(Entry::Pair(last.k, u.clone()));
                         }
                     }
@@ -133,7 +133,7 @@ impl Walk<'_, '_> {
                     if let Some(k) = if from_w { None } else { y.pop() } {
                         r.push(Entry::Pair(k, u.clone()));
                     } else if let Some(last) = w.pop() {
-                        self.compare(r, &last, u)?;
+                        self.compare(r, &w, &last, u)?;
                         r.push(Entry::Pair(last.k, u.clone()));
                     } else {
                         r.push(Entry::Single(u.clone()));
@@ -146,8 +146,14 @@ impl Walk<'_, '_> {
         }
     }
 
-    /// `same(R,K,U)` by the next group.
-    fn compare(&mut self, r: &Frame, applicator: &Waiting, u: &Term) -> Result<(), Refusal> {
+    /// `same(R,K,U)` by the next group, with `w` waiting before the applicator.
+    fn compare(
+        &mut self,
+        r: &Frame,
+        w: &[Waiting],
+        applicator: &Waiting,
+        u: &Term,
+    ) -> Result<(), Refusal> {
         let place = applicator.place;
         let Some(type_of_k) = type_of(r, &applicator.k) else {
             return refuse(NO_TYPE, place);
@@ -158,8 +164,8 @@ impl Walk<'_, '_> {
         if body_outgrown(r, &type_of_k) || body_outgrown(r, u) {
             return refuse(OUTGROWN, place);
         }
-        let left = self.replay(r, type_of_k, &group.left, place)?;
-        let right = self.replay(r, u.clone(), &group.right, place)?;
+        let left = self.replay(r, w, type_of_k, &group.left, place)?;
+        let right = self.replay(r, w, u.clone(), &group.right, place)?;
         if left != right {
             return refuse(BODIES_DIFFER, place);
         }
@@ -171,12 +177,17 @@ impl Walk<'_, '_> {
     fn replay(
         &self,
         r: &Frame,
+        w: &[Waiting],
         mut body: Term,
         steps: &[Step],
         place: usize,
     ) -> Result<Term, Refusal> {
         for &step in steps {
-            match (self.apply)(r, &body, step) {
+            let applied = match made(Mistake::PartnerInW) {
+                false => (self.apply)(r, &body, step),
+                true => after_waiting(self.apply, r, w, &body, step),
+            };
+            match applied {
                 None => return refuse(BAD_STEP, place),
                 Some(next) => body = next,
             }
@@ -186,6 +197,26 @@ impl Walk<'_, '_> {
         }
         Ok(body)
     }
+}
+
+/// The step on the body with W before it as items of its train.
+fn after_waiting(apply: Apply, r: &Frame, w: &[Waiting], body: &Term, step: Step) -> Option<Term> {
+    if step.place >= body.size() {
+        return None;
+    }
+    let train = w
+        .iter()
+        .rev()
+        .fold(body.clone(), |rest, first| app(first.k.clone(), rest));
+    let place = step.place + train.size() - body.size();
+    let mut stepped = apply(r, &train, Step { place, ..step })?;
+    for _ in w {
+        let App(item) = &stepped else {
+            unreachable!("the items of W stay");
+        };
+        stepped = item.parts().1.clone();
+    }
+    Some(stepped)
 }
 
 fn end_at_tau(w: &[Waiting]) -> Result<(), Refusal> {

@@ -272,9 +272,9 @@ fn local_step_lifts_by_the_scopes_between() {
         stepped(&term, 1, 6, 9),
         ((0, 0, 9), hex("fe ff 00 01 ff 00 ff 00 01"))
     );
-    // No pair: the applicator is not directly before the abstractor.
+    // No couple: the applicator is another abstractor's.
     assert_eq!(
-        stepped(&hex("fe 00 fe 00 ff 00 ff 00 01"), 1, 8, 9),
+        stepped(&hex("fe 00 ff 00 ff 00 01"), 1, 6, 9),
         ((10, 0, 0), untouched(9))
     );
     assert_eq!(

@@ -485,3 +485,112 @@ fn kind_3_limits_of_a_compared_body() {
     let declared = 2 + 101 + 1 + 101 + 1 + 2 + 2 * 202 + 1;
     assert_eq!(scopes(50, 202), (11, 3 + declared, 4, 1));
 }
+
+// --------------------------------------------------------------- couples
+
+/// The step call into a buffer longer than any result here: what it writes, or
+/// the number of the refusal.
+fn by_step(term: &str, kind: u8, place: u16) -> Result<Vec<u8>, u8> {
+    let (a, buffer) = stepped(&hex(term), kind, place, 64);
+    assert!(buffer[a.2..].iter().all(|&byte| byte == 0xaa));
+    match a {
+        (0, 0, length) => Ok(buffer[..length].to_vec()),
+        (number, 0, 0) => Err(number),
+        _ => panic!("{a:?}"),
+    }
+}
+
+#[test]
+fn reading_d1_matched_between_to_any_depth() {
+    let term = hex("fe 00 fe 00 ff 00 ff 00 01");
+    assert_eq!(
+        stepped_with_pairs(&term, 1, 8, 9),
+        ((10, 0, 0), untouched(9))
+    );
+    assert_eq!(
+        stepped(&term, 1, 8, 9),
+        ((0, 0, 9), hex("fe 00 fe 00 ff 00 ff 00 00"))
+    );
+    let term = hex("fe 00 fe 00 fe 00 ff 00 ff 00 ff 00 01");
+    assert_eq!(
+        stepped(&term, 1, 12, 13),
+        ((0, 0, 13), hex("fe 00 fe 00 fe 00 ff 00 ff 00 ff 00 00"))
+    );
+}
+
+#[test]
+fn reading_d2_lift_over_the_abstractors_between() {
+    assert_eq!(
+        by_step("ff 00 fe 01 fe 00 ff 00 ff 00 01", 1, 10),
+        Ok(hex("ff 00 fe 01 fe 00 ff 00 ff 00 03"))
+    );
+}
+
+#[test]
+fn reading_d3_what_stands_between_stays() {
+    assert_eq!(
+        by_step("fe 00 fe 00 ff 00 ff 00 02", 2, 0),
+        Ok(hex("fe 00 ff 00 01"))
+    );
+    assert_eq!(
+        by_step("ff 00 fe 01 fe 01 ff 01 ff 00 ff 00 04", 2, 2),
+        Ok(hex("ff 00 fe 01 ff 01 ff 00 03"))
+    );
+    // Kind 3 on D2's term.
+    assert_eq!(
+        by_step("ff 00 fe 01 fe 00 ff 00 ff 00 01", 3, 2),
+        Ok(hex("ff 00 fe 00 ff 00 02"))
+    );
+}
+
+#[test]
+fn reading_d4_inside_the_body_alone() {
+    let term = hex("ff 00 ff ff 00 01 fe 02 fe 01 ff ff 00 01 01");
+    let groups = "02 00 03 01 00 02 03 00 03 01 00 02 02 00 00 03 00 00";
+    assert_eq!(checked(&file_hex(&term, groups)), (10, 8, 0, 3));
+    // A pair of the frame that stems from wagons far apart.
+    let term = hex("ff 00 ff 01 fe 02 fe 02 ff 00 ff 00 fe 03 ff 01 01");
+    let groups = format!("{EMPTY_GROUP} {EMPTY_GROUP} 02 00 00 03 00 03 01 00 00");
+    let file = file_hex(&term, &groups);
+    assert_eq!(checked_with_pairs(&file), (0, 0, 3, 3));
+    assert_eq!(checked(&file), (0, 0, 3, 3));
+}
+
+#[test]
+fn reading_d5_nothing_left_to_match_and_uses_in_the_outer_u() {
+    assert_eq!(by_step("fe 00 fe 00 ff 00 00", 2, 0), Err(10));
+    let term = "fe 00 fe 00 ff 00 ff 01 00";
+    assert_eq!(by_step(term, 2, 2), Err(10));
+    assert_eq!(by_step(term, 3, 2), Ok(hex("fe 00 ff 00 00")));
+    assert_eq!(by_step(term, 2, 0), Ok(hex("fe 00 ff 00 00")));
+}
+
+/// [p:τ][a:p][f:[p][p]p]: the type of ⟨a⟩⟨a⟩f is ⟨a⟩⟨a⟩[p][p]p, where the first
+/// ⟨a⟩ goes with the second [p] of the copied U.
+#[test]
+fn reading_d6_a_wagon_of_k_and_one_of_the_copied_u() {
+    let term = hex("ff 00 ff 01 ff ff 02 ff 03 04 fe fe 02 fe 02 01 ff 03 00");
+    let groups = |steps: &str| {
+        let two = format!("{EMPTY_GROUP} {EMPTY_GROUP}");
+        file_hex(&term, &format!("{two} 02 00 06 {steps} 03 00 00"))
+    };
+    // The outer couple, then the pair that is left.
+    for kind in ["02", "03"] {
+        let file = groups(&format!("{kind} 00 00 {kind} 00 00"));
+        assert_eq!(checked_with_pairs(&file), (10, 10, 2, 1));
+        assert_eq!(checked(&file), (0, 0, 3, 1));
+    }
+    // Pair by pair.
+    let file = groups("02 00 02 02 00 00");
+    assert_eq!(checked_with_pairs(&file), (0, 0, 3, 1));
+    assert_eq!(checked(&file), (0, 0, 3, 1));
+}
+
+#[test]
+fn reading_d7_other_answers_stay() {
+    let term = hex("01 00 11 ff 00 ff 01 fe 01 ff fe 02 fe 02 ff 00 ff 00 01 00");
+    let groups = format!("{EMPTY_GROUP} {EMPTY_GROUP} 02 00 00 03 00 06 03 00 00 03 00 00");
+    let file = [term, hex(&groups)].concat();
+    assert_eq!(checked_with_pairs(&file), (10, 4, 2, 1));
+    assert_eq!(checked(&file), (0, 0, 3, 1));
+}

@@ -1,14 +1,17 @@
--- The loops that find a variable's abstractor and the applicator before it.
+-- The loops that find a variable's abstractor and the applicator that matches it.
 -- Assumes nothing.
-use Prim.Native.Nat.{ℕ, _+_, _-_, _≤_, _<_}
-use mathlib.Core.Path.{_≡_, refl, ap, sym, subst, _∙_}
+use Prim.Native.Nat.{ℕ, zero, suc, _+_, _-_, _≤_, _<_}
+use mathlib.Core.Path.{_≡_, refl, ap, sym, _∙_}
 use mathlib.Core.List.{List}
 use native.Mathlib.Omega.{arith}
+use native.Mathlib.Nat.{add-zero, add-suc}
+use native.Mathlib.Numerals.{add-one}
 use lib.ListN.{getD}
+use borrow.Author.Tests.{lt-ltb, le-ltb, eq-eqb, ne-eqb}
 use Rattle.calculus.proofs.Lift.{lo, hi, cmp}
 use Rattle.letters.specs.Letters.{letter, applicator, abstractor, symbolOf, depthOf, heightOf}
-use Rattle.letters.proofs.Letters.{symbol-letter, depth-letter, height-letter}
-use Rattle.bodies.specs.Finding.{BinderAt, Found, MateIs, mate-first, mate-app, mate-other, Mated}
+use Rattle.letters.proofs.Letters.{depth-letter, height-letter}
+use Rattle.bodies.specs.Finding.{BinderAt, Found, partnerFrom, Mated}
 
 -- ---- The abstractor: m is the least height from place q up to p.
 pub record Scanning (s : List ℕ) (p d q m : ℕ) : Type 0 where
@@ -49,57 +52,70 @@ module _ {s : List ℕ} {p d q m : ℕ} (c : Scanning s p d q m) (l : 0 < q) whe
         ]
       ]
 
--- ---- The applicator: every letter from place i up to q is higher than h, which is the height at q.
-pub record Backing (s : List ℕ) (q h i : ℕ) : Type 0 where
-  pub left : i ≤ q
+-- ---- The applicator: what the letter before place suc i says.
+module _ (s : List ℕ) (h i n next : ℕ) where
+  pub outside-train : heightOf (getD s i 0) < h → partnerFrom s h (suc i) n next ≡ (0, 0)
+  unfolding partnerFrom
+  outside-train l = rw (lt-ltb (heightOf (getD s i 0)) h l)
+
+  pub inside-wagon : h < heightOf (getD s i 0) → partnerFrom s h (suc i) n next ≡ partnerFrom s h i n next
+  unfolding partnerFrom
+  inside-wagon l = rw (le-ltb (heightOf (getD s i 0)) h (omega arith), ne-eqb (heightOf (getD s i 0)) h (λ e. omega arith))
+
+  module _ (e : heightOf (getD s i 0) ≡ h) where
+    pub at-abstractor : (symbolOf (getD s i 0) ≡ applicator → ⊥) → partnerFrom s h (suc i) n next ≡ partnerFrom s h i (suc n) i
+    unfolding partnerFrom
+    at-abstractor z = rw (le-ltb (heightOf (getD s i 0)) h (omega arith), eq-eqb (heightOf (getD s i 0)) h e, ne-eqb (symbolOf (getD s i 0)) applicator z)
+
+    module _ (a : symbolOf (getD s i 0) ≡ applicator) where
+      pub at-partner : n ≡ 0 → partnerFrom s h (suc i) n next ≡ (suc i, next)
+      unfolding partnerFrom
+      at-partner z = rw (le-ltb (heightOf (getD s i 0)) h (omega arith), eq-eqb (heightOf (getD s i 0)) h e, eq-eqb (symbolOf (getD s i 0)) applicator a, eq-eqb n 0 z)
+
+      pub at-applicator : (n ≡ 0 → ⊥) → partnerFrom s h (suc i) n next ≡ partnerFrom s h i (n - 1) i
+      unfolding partnerFrom
+      at-applicator z = rw (le-ltb (heightOf (getD s i 0)) h (omega arith), eq-eqb (heightOf (getD s i 0)) h e, eq-eqb (symbolOf (getD s i 0)) applicator a, ne-eqb n 0 z)
+
+-- Past the letters inside a wagon.
+pub past-wagon : (s : List ℕ) (h from j n next : ℕ) → ((k : ℕ) → from ≤ k → k < from + j → h < heightOf (getD s k 0)) → partnerFrom s h (from + j) n next ≡ partnerFrom s h from n next
+past-wagon s h from zero n next f = ap (λ x. partnerFrom s h x n next) (add-zero from)
+past-wagon s h from (suc j) n next f = ap (λ x. partnerFrom s h x n next) (add-suc from j) ∙ inside-wagon s h (from + j) n next (f (from + j) (omega arith) (omega arith)) ∙ past-wagon s h from j n next (λ k a b. f k a (omega arith))
+
+-- The loop: what is found from place i on is what is found from q on.
+pub record Searching (s : List ℕ) (q h i n next : ℕ) : Type 0 where
   pub here : h ≡ heightOf (getD s q 0)
-  pub high : (j : ℕ) → i ≤ j → j < q → h < heightOf (getD s j 0)
+  pub left : n + i ≤ q
+  pub same : partnerFrom s h i n next ≡ partnerFrom s h q 0 q
 
-module _ {s : List ℕ} {q h i : ℕ} (c : Backing s q h i) where
-  pub back-next : 0 < i → h < heightOf (getD s (i - 1) 0) → Backing s q h (i - 1)
-  back-next l g = record { left = omega (arith, c .left); here = c .here; high = λ j x y. go j x y }
-    where
-      go : (j : ℕ) → i - 1 ≤ j → j < q → h < heightOf (getD s j 0)
-      go j x y = elim (cmp i j) [
-        | lo u ↦ c .high j u y
-        | hi u ↦ let e : j ≡ i - 1 = omega arith in rw e g
-      ]
+module _ {s : List ℕ} {q h i n next : ℕ} (c : Searching s q h i n next) where
+  mated : {a e : ℕ} → partnerFrom s h i n next ≡ (a, e) → Mated s q (record { applied = a; end = e; abstractor = q })
+  mated z = record {
+    start-is = ap (λ x. x .0) (sym z ∙ c .same) ∙ ap (λ x. partnerFrom s x q 0 q .0) (c .here);
+    end-is = ap (λ x. x .1) (sym z ∙ c .same) ∙ ap (λ x. partnerFrom s x q 0 q .1) (c .here);
+    abstractor-is = refl;
+  }
 
-  -- The answer is looked for at the height h alone.
-  mated : {r : ℕ} → ((d y : ℕ) → d < 1024 → getD s q 0 - 1 ≡ letter applicator d h → MateIs s q d h y → r ≡ y) → Mated s q r
-  unfolding letter
-  mated f = record { all = λ d k y a b m. let z : k ≡ h = sym (c .here ∙ ap heightOf b ∙ height-letter abstractor d k (omega arith) a) in f d y a (omega arith) (subst (λ x. MateIs s q d x y) z m) }
+  pub search-end : i ≤ 0 → Mated s q (record { applied = 0; end = 0; abstractor = q })
+  unfolding partnerFrom
+  search-end l = let z : i ≡ 0 = omega arith in mated (ap (λ x. partnerFrom s h x n next) z)
 
-  -- What is not higher stands before i; directly before, if all after it is higher and the letter there is not.
-  before : (a : ℕ) → a < q → heightOf (getD s a 0) ≤ h → a < i
-  before a x n = elim (cmp i a) [ lo u ↦ absurd (omega (arith, c .high a u x)) | hi u ↦ u ]
+  module _ (l : 0 < i) where
+    before-i : {r : ℕ × ℕ} → partnerFrom s h (suc (i - 1)) n next ≡ r → partnerFrom s h i n next ≡ r
+    before-i z = ap (λ x. partnerFrom s h x n next) (omega arith) ∙ z
 
-  module _ (l : 0 < i) (n : heightOf (getD s (i - 1) 0) ≤ h) where
-    directly : (a : ℕ) → a < q → heightOf (getD s a 0) ≤ h → ((j : ℕ) → a < j → j < q → h < heightOf (getD s j 0)) → a ≡ i - 1
-    directly a x w u = let b = before a x w in elim (cmp (i - 1) a) [ lo f ↦ omega arith | hi f ↦ absurd (omega (arith, u (i - 1) f (omega (arith, c .left)))) ]
+    pub search-outside : heightOf (getD s (i - 1) 0) < h → Mated s q (record { applied = 0; end = 0; abstractor = q })
+    search-outside g = mated (before-i (outside-train s h (i - 1) n next g))
 
-    pub back-found : getD s (i - 1) 0 ≡ getD s q 0 - 1 → Mated s q (i - 1 + 1)
-    back-found g = mated (λ d y a b r. go d y a (g ∙ b) r)
-      where
-        go : (d y : ℕ) → d < 1024 → getD s (i - 1) 0 ≡ letter applicator d h → MateIs s q d h y → i - 1 + 1 ≡ y
-        go d y a b (mate-first x) = absurd (omega (arith, c .left))
-        go d y a b (mate-app {a = j} x u v) = omega (arith, directly j x (omega (arith, ap heightOf v, height-letter applicator d h (omega arith) a)) u)
-        go d y a b (mate-other {a = j} x u v w) =
-            let e : getD s j 0 ≡ letter applicator d h = ap (λ o. getD s o 0) (directly j x v u) ∙ b in
-            absurd (omega (arith, w (ap symbolOf e ∙ symbol-letter applicator d h (omega arith)), ap heightOf e, height-letter applicator d h (omega arith) a))
+    pub search-inside : h < heightOf (getD s (i - 1) 0) → Searching s q h (i - 1) n next
+    search-inside g = record { here = c .here; left = omega (arith, c .left); same = sym (before-i (inside-wagon s h (i - 1) n next g)) ∙ c .same }
 
-    pub back-other : (getD s (i - 1) 0 ≡ getD s q 0 - 1 → ⊥) → Mated s q 0
-    back-other g = mated (λ d y a b r. go d y a b r)
-      where
-        go : (d y : ℕ) → d < 1024 → getD s q 0 - 1 ≡ letter applicator d h → MateIs s q d h y → 0 ≡ y
-        go d y a b (mate-first x) = refl
-        go d y a b (mate-app {a = j} x u v) = absurd (g (ap (λ o. getD s o 0) (sym (directly j x (omega (arith, ap heightOf v, height-letter applicator d h (omega arith) a)) u)) ∙ v ∙ sym b))
-        go d y a b (mate-other x u v w) = refl
+    module _ (e : heightOf (getD s (i - 1) 0) ≡ h) where
+      pub search-abstractor : (symbolOf (getD s (i - 1) 0) ≡ applicator → ⊥) → Searching s q h (i - 1) (n + 1) (i - 1)
+      search-abstractor z = record { here = c .here; left = omega (arith, c .left); same = ap (λ x. partnerFrom s h (i - 1) x (i - 1)) (add-one n) ∙ sym (before-i (at-abstractor s h (i - 1) n next e z)) ∙ c .same }
 
-  pub back-end : i ≤ 0 → Mated s q 0
-  back-end l = mated (λ d y a b r. go d y a r)
-    where
-      go : (d y : ℕ) → d < 1024 → MateIs s q d h y → 0 ≡ y
-      go d y a (mate-first x) = refl
-      go d y a (mate-app {a = j} x u v) = absurd (omega (arith, before j x (omega (arith, ap heightOf v, height-letter applicator d h (omega arith) a))))
-      go d y a (mate-other x u v w) = refl
+      module _ (a : symbolOf (getD s (i - 1) 0) ≡ applicator) where
+        pub search-partner : n ≡ 0 → Mated s q (record { applied = i - 1 + 1; end = next; abstractor = q })
+        search-partner z = mated (before-i (at-partner s h (i - 1) n next e a z) ∙ ap (λ x. (x, next)) (sym (add-one (i - 1))))
+
+        pub search-applicator : (n ≡ 0 → ⊥) → Searching s q h (i - 1) (n - 1) (i - 1)
+        search-applicator z = record { here = c .here; left = omega (arith, c .left); same = sym (before-i (at-applicator s h (i - 1) n next e a z)) ∙ c .same }

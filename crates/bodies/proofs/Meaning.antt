@@ -4,14 +4,15 @@ use Prim.Native.Nat.{ℕ, suc, _+_, _-_, _≤_, _<_}
 use mathlib.Core.Path.{_≡_, refl, ap, sym, subst, _∙_}
 use mathlib.Core.Bool.{true, false}
 use mathlib.Core.Option.{Option, none, some, Option·map}
-use mathlib.Core.List.{List}
+use mathlib.Core.List.{List, []}
 use native.Mathlib.Omega.{arith}
 use native.Mathlib.Numerals.{add-one}
 use lib.ListN.{length, getD}
 use Rattle.calculus.specs.Terms.{Term, tau, var, app, abs, size, lift}
 use Rattle.calculus.specs.Frames.{Entry, single, pair, domain, Frame, depth, entryAt}
 use Rattle.calculus.specs.Types.{type, typeOfVar}
-use Rattle.calculus.specs.Steps.{local, kindIn, Reason, wrong-symbol, no-partner, Outcome, reached, refused, mapOutcome, reduceVar, stepHere, stepAt, stepOf, stepBy, step}
+use Rattle.calculus.specs.Steps.{local, couples, reachOf, kindIn, Reason, wrong-symbol, no-partner, Outcome, reached, refused, mapOutcome, reduceVar, stepHere, stepAt, stepOf, stepBy, step}
+use Rattle.calculus.proofs.Lift.{lift-fusion}
 use Rattle.calculus.proofs.Closed.{closedness}
 use Rattle.calculus.proofs.Ren.{no-some, some-inj}
 use Rattle.code.specs.Limits.{longestTerm, mostAbstractors}
@@ -26,7 +27,7 @@ use Rattle.letters.specs.Letters.{applicator, symbolOf, depthOf, heightOf, Lies
 use Rattle.letters.proofs.Letters.{first, height-letter, lies-end}
 use Rattle.bodies.specs.Ways.{Way, put, frameAt, depthAt}
 use Rattle.bodies.specs.Held.{Held, SomeHeld, InBody, FormAs, reasonNumber, SteppedAs, step-refused, step-reached, TypedAs, no-type, typed, Steps, Types}
-use Rattle.bodies.specs.Finding.{DomainLies, EntryLies, lies-single, lies-pair, Binds, BoundInside, SomeBound, Finds}
+use Rattle.bodies.specs.Finding.{Found, DomainLies, BindsDomain, EntryLies, lies-single, lies-pair, Binds, BoundInside, SomeBound, Finds}
 use Rattle.bodies.specs.Moving.{Ending}
 use Rattle.bodies.specs.Putting.{SourceIs, in-frame, in-body, Puttable, PutsTerm}
 use Rattle.bodies.specs.declared.Binder.{Binder}
@@ -34,6 +35,7 @@ use Rattle.bodies.specs.declared.Form.{Form}
 use Rattle.bodies.specs.declared.Form.the-variants.{Refused}
 use Rattle.bodies.specs.declared.Source.{Source}
 use Rattle.bodies.proofs.Ways.{place-way, step-along, means-outside, LastIs, ends-tau, ends-variable, last-is, same-frame}
+use Rattle.bodies.proofs.Binding.{found-domain}
 use Rattle.bodies.proofs.Extents.{above}
 use Rattle.bodies.proofs.Endings.{ending-is}
 use Rattle.bodies.proofs.Places.{At, at-way, index-there}
@@ -57,10 +59,10 @@ module _ {W : List ℕ} {f : FrameRecord} {s : List ℕ} {n p : ℕ} {R : Frame}
   variable-way {k} e a b = let r = way-there in subst (Way t p) (variable-is (r .0) (e ∙ at-way y (r .1) .symbol) a b) (r .1)
 
   pub not-variable : {k : ℕ} → k ≡ symbolOf (getD s p 0) → (1 ≤ k → k < applicator → ⊥) → step R (record { kind = 1; place = p }) t ≡ refused wrong-symbol
-  unfolding stepBy stepOf kindIn mapOutcome stepHere first
-  not-variable {k} e c = let r = way-there in step-along local R none (r .1) ∙ ap (mapOutcome (put (r .1))) (go (r .0) (r .1) (at-way y (r .1) .there-now .lies .coded) (e ∙ at-way y (r .1) .symbol))
+  unfolding stepBy stepOf reachOf kindIn mapOutcome stepHere first
+  not-variable {k} e c = let r = way-there in step-along local R [] (r .1) ∙ ap (mapOutcome (put (r .1))) (go (r .0) (r .1) (at-way y (r .1) .there-now .lies .coded) (e ∙ at-way y (r .1) .symbol))
     where
-      go : (u : Term) (w : Way t p u) → Coded u → k ≡ first u → stepHere local (frameAt R none w) u ≡ refused wrong-symbol
+      go : (u : Term) (w : Way t p u) → Coded u → k ≡ first u → stepHere couples local (frameAt R [] w) u ≡ refused wrong-symbol
       go tau w d q = refl
       go (var j) w d q = let z = index-small d in absurd (c (omega arith) (omega arith))
       go (app K B) w d q = refl
@@ -76,7 +78,8 @@ place-inside g = let y = g .some-held .held in (g .inside, omega (arith, lies-en
 pub last-in-body : {W : List ℕ} {f : FrameRecord} {s : List ℕ} {n : ℕ} → SomeHeld W f s n → InBody W f s n (n - 1)
 last-in-body g = record { some-held = g; inside = omega (arith, lies-end (g .held .lies)) }
 
--- ---- A term that variable k at place p is to become, chosen from the entry that it means, stands where x says.
+-- ---- A term that variable k at place p is to become, chosen from the entry that it means, stands where x says. It need not stand there
+-- as it is meant: only what both are lifted to is one term.
 unfoldable pub partner : Entry → Option Term
 partner (single U) = none
 partner (pair K U) = some K
@@ -86,10 +89,12 @@ ownDomain e = some (domain e)
 
 pub record Supplied (W s : List ℕ) (p : ℕ) (x : Source) (choose : Entry → Option Term) (R : Frame) {t : Term} {k : ℕ} (w : Way t p (var k)) : Type 0 where
   pub entry : Entry
+  pub meant : Term
   pub term : Term
-  pub means : entryAt (frameAt R none w) k ≡ some entry
-  pub chosen : choose entry ≡ some term
-  pub source : SourceIs W s p k (depthAt 0 w) x term
+  pub means : entryAt (frameAt R [] w) k ≡ some entry
+  pub chosen : choose entry ≡ some meant
+  pub lifted : lift k 0 meant ≡ lift (x .lift) 0 term
+  pub source : SourceIs W s p (depthAt 0 w) x term
 
 pub record Supplies (W : List ℕ) (f : FrameRecord) (s : List ℕ) (n p k : ℕ) (x : Source) (choose : Entry → Option Term) : Type 0 where
   pub all : {R : Frame} {t : Term} → Held W f s n R t → (w : Way t p (var k)) → Supplied W s p x choose R w
@@ -104,13 +109,13 @@ unfolding partner reduceVar
 reduce-alone k (single U) q = refl
 reduce-alone k (pair K U) q = no-some (sym q)
 
-local-here : {p k : ℕ} (R : Frame) {t : Term} (w : Way t p (var k)) {e : Entry} → entryAt (frameAt R none w) k ≡ some e → step R (record { kind = 1; place = p }) t ≡ mapOutcome (put w) (reduceVar k (some e))
-unfolding stepBy stepOf kindIn stepHere
-local-here {k = k} R w q = step-along local R none w ∙ ap (λ o. mapOutcome (put w) (reduceVar k o)) q
+local-here : {p k : ℕ} (R : Frame) {t : Term} (w : Way t p (var k)) {e : Entry} → entryAt (frameAt R [] w) k ≡ some e → step R (record { kind = 1; place = p }) t ≡ mapOutcome (put w) (reduceVar k (some e))
+unfolding stepBy stepOf reachOf kindIn stepHere
+local-here {k = k} R w q = step-along local R [] w ∙ ap (λ o. mapOutcome (put w) (reduceVar k o)) q
 
 -- The entry is single.
 pub record Alone (W : List ℕ) (f : FrameRecord) (s : List ℕ) (n p k : ℕ) : Type 0 where
-  pub all : {R : Frame} {t : Term} → Held W f s n R t → (w : Way t p (var k)) → (o : Entry) × (entryAt (frameAt R none w) k ≡ some o) × (partner o ≡ none)
+  pub all : {R : Frame} {t : Term} → Held W f s n R t → (w : Way t p (var k)) → (o : Entry) × (entryAt (frameAt R [] w) k ≡ some o) × (partner o ≡ none)
 
 module _ {W : List ℕ} {f : FrameRecord} {s : List ℕ} {n p k : ℕ} (g : InBody W f s n p) (e : k ≡ symbolOf (getD s p 0)) (a : 1 ≤ k) (b : k < applicator) where
   pub puttable : {x : Source} {choose : Entry → Option Term} → Supplies W f s n p k x choose → Puttable W (f .len) s n p x
@@ -119,11 +124,11 @@ module _ {W : List ℕ} {f : FrameRecord} {s : List ℕ} {n p k : ℕ} (g : InBo
 
   pub local-put : {x : Source} {s′ : List ℕ} {r : Form} → Supplies W f s n p k x partner → PutsTerm W (f .len) s s′ n p x r → Steps W f s s′ n (record { kind = 1; place = p }) r
   unfolding mapOutcome
-  local-put {s′ = s′} {r} c d = record { all = λ R t y. go R t y (variable-way y (g .inside) e a b); same-length = d .same-length }
+  local-put {x} {s′} {r} c d = record { all = λ R t y. go R t y (variable-way y (g .inside) e a b); same-length = d .same-length }
     where
       go : (R : Frame) (t : Term) (y : Held W f s n R t) → Way t p (var k) → SteppedAs W f s′ R (record { kind = 1; place = p }) t r
       go R t y w = let z = c .all y w in
-          let q : step R (record { kind = 1; place = p }) t ≡ reached (put w (lift k 0 (z .term))) = local-here R w (z .means) ∙ ap (mapOutcome (put w)) (reduce-partner k (z .entry) (z .chosen)) in
+          let q : step R (record { kind = 1; place = p }) t ≡ reached (put w (lift (x .lift) 0 (z .term))) = local-here R w (z .means) ∙ ap (mapOutcome (put w)) (reduce-partner k (z .entry) (z .chosen)) ∙ ap (λ v. reached (put w v)) (z .lifted) in
           step-reached q (d .all f refl R t k w (z .term) y (z .source) (closedness .step-closed (record { kind = 1; place = p }) (y .closed-frame) (y .closed) q))
 
   pub local-alone : Alone W f s n p k → Steps W f s s n (record { kind = 1; place = p }) (Refused 4)
@@ -136,7 +141,7 @@ module _ {W : List ℕ} {f : FrameRecord} {s : List ℕ} {n p k : ℕ} (g : InBo
 -- ---- The last symbol, and the type.
 record LastVariable (t : Term) (q k : ℕ) : Type 0 where
   way : Way t q (var k)
-  types : (R : Frame) → type R t ≡ Option·map (put way) (typeOfVar k (entryAt (frameAt R none way) k))
+  types : (R : Frame) → type R t ≡ Option·map (put way) (typeOfVar k (entryAt (frameAt R [] way) k))
 
 module _ {W : List ℕ} {f : FrameRecord} {s : List ℕ} {n : ℕ} {R : Frame} {t : Term} (y : Held W f s n R t) where
   last-there : LastIs t (n - 1)
@@ -156,7 +161,7 @@ module _ {W : List ℕ} {f : FrameRecord} {s : List ℕ} {n : ℕ} {R : Frame} {
     where
       go : LastIs t (n - 1) → LastVariable t (n - 1) k
       go (ends-tau w q) = absurd (omega (arith, at-way y w .symbol))
-      go (ends-variable w q) = subst (LastVariable t (n - 1)) (sym (e ∙ at-way y w .symbol)) (record { way = w; types = λ R. q R R none same-frame })
+      go (ends-variable w q) = subst (LastVariable t (n - 1)) (sym (e ∙ at-way y w .symbol)) (record { way = w; types = λ R. q R R [] same-frame })
 
   pub last-small : symbolOf (getD s (n - 1) 0) < applicator
   unfolding first
@@ -173,11 +178,11 @@ module _ {W : List ℕ} {f : FrameRecord} {s : List ℕ} {n k : ℕ} (g : SomeHe
 
   pub type-put : {x : Source} {s′ : List ℕ} {r : Form} → 1 ≤ k → Supplies W f s n (n - 1) k x ownDomain → PutsTerm W (f .len) s s′ n (n - 1) x r → Types W f s s′ n r
   unfolding typeOfVar ownDomain
-  type-put {s′ = s′} {r} l c d = record { all = λ R t y. go R t y (last-variable y e l); same-length = d .same-length }
+  type-put {x} {s′} {r} l c d = record { all = λ R t y. go R t y (last-variable y e l); same-length = d .same-length }
     where
       go : (R : Frame) (t : Term) (y : Held W f s n R t) → LastVariable t (n - 1) k → TypedAs W f s′ R t r
       go R t y v = let w = v .way in let z = c .all y w in
-          let q : type R t ≡ some (put w (lift k 0 (z .term))) = v .types R ∙ ap (λ o. Option·map (put w) (typeOfVar k o)) (z .means) ∙ ap (λ u. some (put w (lift k 0 u))) (some-inj (z .chosen)) in
+          let q : type R t ≡ some (put w (lift (x .lift) 0 (z .term))) = v .types R ∙ ap (λ o. Option·map (put w) (typeOfVar k o)) (z .means) ∙ ap (λ u. some (put w (lift k 0 u))) (some-inj (z .chosen)) ∙ ap (λ u. some (put w u)) (z .lifted) in
           typed q (d .all f refl R t k w (z .term) y (z .source) (closedness .type-closed (y .closed-frame) (y .closed) q))
 
 -- ---- The entry that a variable means, within the body.
@@ -200,15 +205,8 @@ module _ {W : List ℕ} {f : FrameRecord} {s : List ℕ} {n p k d : ℕ} (e : d 
       record { array = y .array; n = n; k = k; term = g .some-held .term; way = w; bound = bound-there y w }
 
   module _ {r : Binder} (c : Finds s p (d - k) r) where
-    binds : {R : Frame} {t : Term} (y : Held W f s n R t) (w : Way t p (var k)) → Binds s p (d - k) (λ R. entryAt (frameAt R none w) k) r
+    binds : {R : Frame} {t : Term} (y : Held W f s n R t) (w : Way t p (var k)) → Binds s p (d - k) (λ R. entryAt (frameAt R [] w) k) r
     binds {t = t} y w = c .all n k t w (bound-there y w)
-
-    pub abstractor-before : InBody W f s n p → k ≡ symbolOf (getD s p 0) → 1 ≤ k → k < applicator → r .abstractor < p
-    abstractor-before g q a b = let y = g .some-held .held in go (binds y (variable-way y (g .inside) q a b) .parts)
-      where
-        go : {o : Entry} → EntryLies s p (d - k) r o → r .abstractor < p
-        go (lies-single x u) = omega (arith, lies-end (u .lies), u .before)
-        go (lies-pair x l v u) = omega (arith, lies-end (u .lies), u .before)
 
     pub alone-inside : r .applied ≡ 0 → Alone W f s n p k
     unfolding partner
@@ -216,48 +214,69 @@ module _ {W : List ℕ} {f : FrameRecord} {s : List ℕ} {n p k d : ℕ} (e : d 
       where
         go : (o : Entry) → EntryLies s p (d - k) r o → partner o ≡ none
         go o (lies-single x u) = refl
-        go o (lies-pair x l v u) = absurd (omega arith)
+        go o (lies-pair x q i l v j u) = absurd (omega arith)
 
-    pub partner-inside : (r .applied ≡ 0 → ⊥) → Supplies W f s n p k (record { framed = false; start = r .applied; end = r .abstractor }) partner
-    unfolding partner
-    partner-inside z = record { all = λ {R} {t} y w. let b = binds y w in go R w y (b .entry) (b .means R) (b .parts) }
-      where
-        go : (R : Frame) {t : Term} (w : Way t p (var k)) (y : Held W f s n R t) (o : Entry) → entryAt (frameAt R none w) k ≡ some o → EntryLies s p (d - k) r o
-            → Supplied W s p (record { framed = false; start = r .applied; end = r .abstractor }) partner R w
-        go R w y o m (lies-single x u) = absurd (z x)
-        go R w y (pair K U) m (lies-pair {low = low} x l v u) = record { entry = pair K U; term = K; means = m; chosen = refl; source = in-body {low = low} refl (depth-there y w) l v (omega (arith, lies-end (u .lies), u .before)) }
+    module _ (z : r .applied ≡ 0 → ⊥) where
+      -- the applicator of the couple
+      pub applicator-there : InBody W f s n p → k ≡ symbolOf (getD s p 0) → 1 ≤ k → k < applicator → (1 ≤ r .applied) × (r .applied ≤ p) × (depthOf (getD s (r .applied - 1) 0) ≤ d)
+      applicator-there g q a b = let y = g .some-held .held in go (binds y (variable-way y (g .inside) q a b) .parts)
+        where
+          go : {o : Entry} → EntryLies s p (d - k) r o → (1 ≤ r .applied) × (r .applied ≤ p) × (depthOf (getD s (r .applied - 1) 0) ≤ d)
+          go (lies-single x u) = absurd (z x)
+          go (lies-pair x q i l v j u) = (x, omega (arith, lies-end l), omega arith)
 
-    -- its U ends at m
-    module _ {h m : ℕ} (q : h ≡ heightOf (getD s (r .abstractor) 0)) (j : Ending s n (r .abstractor + 1) (h + 1) m) where
-      domain-of : {U : Term} {R : Frame} {t : Term} → Held W f s n R t → p < n → DomainLies s p (d - k) (r .abstractor) U → DomainThere s p (r .abstractor + 1) m (d - k) U
+      pub partner-inside : {c₀ : ℕ} → c₀ ≡ depthOf (getD s (r .applied - 1) 0) → Supplies W f s n p k (record { framed = false; start = r .applied; end = r .end; lift = d - c₀ }) partner
+      unfolding partner
+      partner-inside {c₀} c₀-is = record { all = λ {R} {t} y w. let b = binds y w in go R w y (b .entry) (b .means R) (b .parts) }
+        where
+          go : (R : Frame) {t : Term} (w : Way t p (var k)) (y : Held W f s n R t) (o : Entry) → entryAt (frameAt R [] w) k ≡ some o → EntryLies s p (d - k) r o
+              → Supplied W s p (record { framed = false; start = r .applied; end = r .end; lift = d - c₀ }) partner R w
+          go R w y o m (lies-single x u) = absurd (z x)
+          go R w y o m (lies-pair {c = c₁} {low = low} {K = L} {U = U} x q h l v j u) = record {
+            entry = pair (lift (d - k - c₁) 0 L) U;
+            meant = lift (d - k - c₁) 0 L;
+            term = L;
+            means = m;
+            chosen = refl;
+            lifted = lift-fusion k 0 (d - k - c₁) 0 L (omega arith) (omega arith) ∙ ap (λ e. lift e 0 L) (omega arith);
+            source = in-body {c = c₁} {low = low} refl (omega (arith, depth-there y w)) l v j;
+          }
+
+  -- its abstractor alone, whose U ends at m
+  module _ {a : ℕ} (c : Found s p (d - k) a) where
+    binds-domain : {R : Frame} {t : Term} (y : Held W f s n R t) (w : Way t p (var k)) → BindsDomain s p (d - k) (λ R. entryAt (frameAt R [] w) k) a
+    binds-domain y w = found-domain (bound-there y w) c
+
+    pub abstractor-before : InBody W f s n p → k ≡ symbolOf (getD s p 0) → 1 ≤ k → k < applicator → a < p
+    abstractor-before g q x b = let y = g .some-held .held in let u = binds-domain y (variable-way y (g .inside) q x b) .lies in omega (arith, lies-end (u .lies), u .before)
+
+    module _ {h m : ℕ} (q : h ≡ heightOf (getD s a 0)) (j : Ending s n (a + 1) (h + 1) m) where
+      domain-of : {U : Term} {R : Frame} {t : Term} → Held W f s n R t → p < n → DomainLies s p (d - k) a U → DomainThere s p (a + 1) m (d - k) U
       domain-of {U} y l u =
           let h-is : h ≡ u .high = q ∙ rw (u .letter-there) (height-letter 1023 (d - k) (u .high) (omega arith) (omega (arith, u .few))) in
-          let ends : Ending s n (r .abstractor + 1) (h + 1) (u .rest) = record {
+          let ends : Ending s n (a + 1) (h + 1) (u .rest) = record {
             after = omega (arith, lies-end (u .lies));
             inside = omega (arith, u .before);
             high = λ z a b. omega (arith, above U (omega (arith, u .few)) (u .lies) z (omega arith) b .high);
             low = λ z. omega (arith, u .rest-height);
           } in
           let m-is : m ≡ u .rest = ending-is j ends in
-          record { low = suc (u .high); lies = rw (m-is, add-one (r .abstractor)) (u .lies); few = u .few; before = omega (arith, u .before) }
+          record { low = suc (u .high); lies = rw (m-is, add-one a) (u .lies); few = u .few; before = omega (arith, u .before) }
 
-      pub domain-inside : p < n → Supplies W f s n p k (record { framed = false; start = r .abstractor + 1; end = m }) ownDomain
-      unfolding ownDomain domain
-      domain-inside l = record { all = λ {R} {t} y w. let b = binds y w in go R w y (b .entry) (b .means R) (b .parts) }
-        where
-          made : (R : Frame) {t : Term} (w : Way t p (var k)) (y : Held W f s n R t) (o : Entry) → entryAt (frameAt R none w) k ≡ some o → DomainLies s p (d - k) (r .abstractor) (domain o)
-              → Supplied W s p (record { framed = false; start = r .abstractor + 1; end = m }) ownDomain R w
-          made R w y o v u = let x = domain-of y l u in record { entry = o; term = domain o; means = v; chosen = refl; source = in-body {low = x .low} refl (depth-there y w) (x .lies) (x .few) (x .before) }
-
-          go : (R : Frame) {t : Term} (w : Way t p (var k)) (y : Held W f s n R t) (o : Entry) → entryAt (frameAt R none w) k ≡ some o → EntryLies s p (d - k) r o
-              → Supplied W s p (record { framed = false; start = r .abstractor + 1; end = m }) ownDomain R w
-          go R w y (single U) v (lies-single x u) = made R w y (single U) v u
-          go R w y (pair K U) v (lies-pair x i z u) = made R w y (pair K U) v u
+      pub domain-inside : p < n → Supplies W f s n p k (record { framed = false; start = a + 1; end = m; lift = k }) ownDomain
+      unfolding ownDomain
+      domain-inside l = record {
+        all = λ {R} {t} y w. let b = binds-domain y w in let x = domain-of y l (b .lies) in
+            record { entry = b .entry; meant = domain (b .entry); term = domain (b .entry); means = b .means R; chosen = refl; lifted = refl; source = in-body {low = x .low} refl (depth-there y w) (x .lies) (x .few) (x .before) };
+      }
 
 -- ---- In the frame.
 module _ {W : List ℕ} {f : FrameRecord} {s : List ℕ} {n p k d : ℕ} (e : d ≡ depthOf (getD s p 0)) (i : d < k) where
-  means-there : {R : Frame} {t : Term} → Held W f s n R t → (w : Way t p (var k)) → entryAt (frameAt R none w) k ≡ entryAt R (k - d)
-  means-there {R} y w = let a = at-way y w in means-outside 0 w R none k (omega (arith, a .deep)) ∙ ap (entryAt R) (omega (arith, a .deep))
+  means-there : {R : Frame} {t : Term} → Held W f s n R t → (w : Way t p (var k)) → entryAt (frameAt R [] w) k ≡ entryAt R (k - d)
+  means-there {R} y w = let a = at-way y w in means-outside 0 w R [] k (omega (arith, a .deep)) ∙ ap (entryAt R) (omega (arith, a .deep))
+
+  few : {R : Frame} {t : Term} → Held W f s n R t → (w : Way t p (var k)) → k ≤ mostAbstractors
+  few y w = let a = at-way y w in omega (arith, index-there a, a .shallow)
 
   pub looked-up : InBody W f s n p → k ≡ symbolOf (getD s p 0) → k < applicator → Holding W f × (1 ≤ k - d) × (k - d ≤ f .len)
   looked-up g q b = let y = g .some-held .held in let w = variable-way y (g .inside) q (omega arith) b in let a = at-way y w in
@@ -272,17 +291,17 @@ module _ {W : List ℕ} {f : FrameRecord} {s : List ℕ} {n p k d : ℕ} (e : d 
         go o (span-single x u) = refl
         go o (span-pair x j l u) = absurd (omega arith)
 
-    pub partner-outside : (m .applied ≡ 0 → ⊥) → Supplies W f s n p k (record { framed = true; start = m .applied; end = m .domain - 1 }) partner
+    pub partner-outside : (m .applied ≡ 0 → ⊥) → Supplies W f s n p k (record { framed = true; start = m .applied; end = m .domain - 1; lift = k }) partner
     unfolding partner
-    partner-outside z = record { all = λ {R} {t} y w. let b = c .found R (y .stored) in go R w (b .0) (means-there y w ∙ b .1) (b .2) }
+    partner-outside z = record { all = λ {R} {t} y w. let b = c .found R (y .stored) in go R w y (b .0) (means-there y w ∙ b .1) (b .2) }
       where
-        go : (R : Frame) {t : Term} (w : Way t p (var k)) (o : Entry) → entryAt (frameAt R none w) k ≡ some o → EntryParts W m o → Supplied W s p (record { framed = true; start = m .applied; end = m .domain - 1 }) partner R w
-        go R w o v (span-single x u) = absurd (z x)
-        go R w (pair K U) v (span-pair x j l u) = record { entry = pair K U; term = K; means = v; chosen = refl; source = in-frame refl (subst (λ b. Stands W (m .applied) b K) (omega arith) l) }
+        go : (R : Frame) {t : Term} (w : Way t p (var k)) (y : Held W f s n R t) (o : Entry) → entryAt (frameAt R [] w) k ≡ some o → EntryParts W m o → Supplied W s p (record { framed = true; start = m .applied; end = m .domain - 1; lift = k }) partner R w
+        go R w y o v (span-single x u) = absurd (z x)
+        go R w y (pair K U) v (span-pair x j l u) = record { entry = pair K U; meant = K; term = K; means = v; chosen = refl; lifted = refl; source = in-frame refl (few y w) (subst (λ b. Stands W (m .applied) b K) (omega arith) l) }
 
-    pub domain-outside : Supplies W f s n p k (record { framed = true; start = m .domain; end = m .end }) ownDomain
+    pub domain-outside : Supplies W f s n p k (record { framed = true; start = m .domain; end = m .end; lift = k }) ownDomain
     unfolding ownDomain
-    domain-outside = record { all = λ {R} {t} y w. let b = c .found R (y .stored) in record { entry = b .0; term = domain (b .0); means = means-there y w ∙ b .1; chosen = refl; source = in-frame refl (span-domain (b .2)) } }
+    domain-outside = record { all = λ {R} {t} y w. let b = c .found R (y .stored) in record { entry = b .0; meant = domain (b .0); term = domain (b .0); means = means-there y w ∙ b .1; chosen = refl; lifted = refl; source = in-frame refl (few y w) (span-domain (b .2)) } }
 
     pub domain-positive : InBody W f s n p → (m .applied ≡ 0 → ⊥) → 1 ≤ m .domain
     domain-positive g z = let b = c .found (g .some-held .frame) (g .some-held .held .stored) in go (b .0) (b .2)

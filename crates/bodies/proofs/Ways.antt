@@ -3,14 +3,16 @@
 use Prim.Native.Nat.{ℕ, zero, suc, _+_, _-_, _≤_, _<_, max}
 use mathlib.Core.Path.{_≡_, refl, ap, ap₂, sym, subst, _∙_}
 use mathlib.Core.Option.{Option, none, some, Option·map}
+use mathlib.Core.List.{List, [], _∷_}
 use native.Mathlib.Omega.{arith}
 use borrow.Author.Tests.{lt-ltb, le-ltb}
 use Rattle.calculus.specs.Terms.{Term, tau, var, app, abs, size, Closed, closed-app, closed-abs}
-use Rattle.calculus.specs.Frames.{Entry, single, domain, Frame, ε, _▹_, depth, entryAt, ClosedEntry, closed-single, closed-pair, ClosedFrame, closed-entry}
+use Rattle.calculus.specs.Frames.{Entry, single, domain, Frame, ε, _▹_, depth, entryAt, ClosedFrame, closed-entry}
 use Rattle.calculus.specs.Types.{typeOfVar, type}
-use Rattle.calculus.specs.Steps.{Kind, Outcome, reached, refused, mapOutcome, stepHere, entryOf, stepAt}
+use Rattle.calculus.specs.Steps.{Kind, couples, mapOutcome, stepHere, entryOf, unmatched, stepAt}
 use Rattle.calculus.proofs.Lift.{lo, hi, cmp}
-use Rattle.calculus.proofs.Ren.{no-some, some-inj}
+use Rattle.calculus.proofs.Matching.{map-none, map-map}
+use Rattle.calculus.proofs.Closed.{Before, no-before, before, before-past, entryOf-closed}
 use Rattle.code.specs.Scope.{scope}
 use Rattle.code.proofs.RoundTrip.{odd}
 use Rattle.bodies.specs.Ways.{Way, here, in-argument, past-argument, in-domain, past-domain, put, frameAt, depthAt, heightAt}
@@ -68,44 +70,35 @@ put-size (in-domain h w) x = omega (arith, put-size w x)
 put-size (past-domain w) x = omega (arith, put-size w x)
 
 -- ---- A step at a place is the step at the start of what stands there, after the frame there.
-map-id : (o : Outcome) → o ≡ mapOutcome (λ x. x) o
-unfolding mapOutcome
-map-id (reached x) = refl
-map-id (refused r) = refl
-
-map-map : (f g : Term → Term) (o : Outcome) → mapOutcome f (mapOutcome g o) ≡ mapOutcome (λ x. f (g x)) o
-unfolding mapOutcome
-map-map f g (reached x) = refl
-map-map f g (refused r) = refl
-
-step-start : (κ : Kind) (R : Frame) (m : Option Term) (t : Term) → stepAt κ R m t 0 ≡ stepHere κ R t
+step-start : (κ : Kind) (R : Frame) (M : List Term) (t : Term) → stepAt couples κ R M t 0 ≡ stepHere couples κ R t
 unfolding stepAt
-step-start κ R m tau = refl
-step-start κ R m (var k) = refl
-step-start κ R m (app K B) = refl
-step-start κ R m (abs U B) = refl
+step-start κ R M tau = refl
+step-start κ R M (var k) = refl
+step-start κ R M (app K B) = refl
+step-start κ R M (abs U B) = refl
 
 less : (n p : ℕ) → n + p - n ≡ p
 less n p = omega arith
 
-pub step-along : {t u : Term} {p : ℕ} (κ : Kind) (R : Frame) (m : Option Term) (w : Way t p u) → stepAt κ R m t p ≡ mapOutcome (put w) (stepHere κ (frameAt R m w) u)
+pub step-along : {t u : Term} {p : ℕ} (κ : Kind) (R : Frame) (M : List Term) (w : Way t p u) → stepAt couples κ R M t p ≡ mapOutcome (put w) (stepHere couples κ (frameAt R M w) u)
 unfolding stepAt put frameAt
-step-along κ R m (here {t}) = step-start κ R m t ∙ map-id (stepHere κ R t)
-step-along κ R m (in-argument {K} {B} {u} {p} h w) = rw (lt-ltb p (size K) h, step-along κ R none w) (map-map (λ X. app X B) (put w) (stepHere κ (frameAt R none w) u))
-step-along κ R m (past-argument {K} {B} {u} {p} w) =
-    rw (le-ltb (size K + p) (size K) (omega arith), less (size K) p, step-along κ R (some K) w) (map-map (app K) (put w) (stepHere κ (frameAt R (some K) w) u))
-step-along κ R m (in-domain {U} {B} {u} {p} h w) = rw (lt-ltb p (size U) h, step-along κ R none w) (map-map (λ X. abs X B) (put w) (stepHere κ (frameAt R none w) u))
-step-along κ R m (past-domain {U} {B} {u} {p} w) =
-    rw (le-ltb (size U + p) (size U) (omega arith), less (size U) p, step-along κ (R ▹ entryOf m U) none w) (map-map (abs U) (put w) (stepHere κ (frameAt (R ▹ entryOf m U) none w) u))
+step-along κ R M (here {t}) = step-start κ R M t ∙ sym (map-none (stepHere couples κ R t))
+step-along κ R M (in-argument {K} {B} {u} {p} h w) = rw (lt-ltb p (size K) h, step-along κ R [] w) (map-map (λ X. app X B) (put w) (stepHere couples κ (frameAt R [] w) u))
+step-along κ R M (past-argument {K} {B} {u} {p} w) =
+    rw (le-ltb (size K + p) (size K) (omega arith), less (size K) p, step-along κ R (K ∷ M) w) (map-map (app K) (put w) (stepHere couples κ (frameAt R (K ∷ M) w) u))
+step-along κ R M (in-domain {U} {B} {u} {p} h w) = rw (lt-ltb p (size U) h, step-along κ R [] w) (map-map (λ X. abs X B) (put w) (stepHere couples κ (frameAt R [] w) u))
+step-along κ R M (past-domain {U} {B} {u} {p} w) =
+    rw (le-ltb (size U + p) (size U) (omega arith), less (size U) p, step-along κ (R ▹ entryOf M U) (unmatched couples M) w)
+    (map-map (abs U) (put w) (stepHere couples κ (frameAt (R ▹ entryOf M U) (unmatched couples M) w) u))
 
 -- ---- Depths and scopes.
-pub frame-depth : {t u : Term} {p : ℕ} (d : ℕ) (R : Frame) (m : Option Term) (w : Way t p u) → depth (frameAt R m w) + d ≡ depth R + depthAt d w
+pub frame-depth : {t u : Term} {p : ℕ} (d : ℕ) (R : Frame) (M : List Term) (w : Way t p u) → depth (frameAt R M w) + d ≡ depth R + depthAt d w
 unfolding depthAt frameAt depth
-frame-depth d R m here = refl
-frame-depth d R m (in-argument h w) = frame-depth d R none w
-frame-depth d R m (past-argument {K = K} w) = frame-depth d R (some K) w
-frame-depth d R m (in-domain h w) = frame-depth d R none w
-frame-depth d R m (past-domain {U = U} w) = omega (arith, frame-depth (suc d) (R ▹ entryOf m U) none w)
+frame-depth d R M here = refl
+frame-depth d R M (in-argument h w) = frame-depth d R [] w
+frame-depth d R M (past-argument {K = K} w) = frame-depth d R (K ∷ M) w
+frame-depth d R M (in-domain h w) = frame-depth d R [] w
+frame-depth d R M (past-domain {U = U} w) = omega (arith, frame-depth (suc d) (R ▹ entryOf M U) (unmatched couples M) w)
 
 pub way-scope : {t u : Term} {p : ℕ} (d : ℕ) (w : Way t p u) → (d ≤ depthAt d w) × (depthAt d w + scope u ≤ d + scope t)
 unfolding depthAt scope
@@ -143,46 +136,35 @@ past R e k d y l q = q ∙ ap (entryAt (R ▹ e)) (omega arith) ∙ farther R e 
 same-place : (k d : ℕ) → k ≡ k + d - d
 same-place k d = omega arith
 
-pub means-outside : {t u : Term} {p : ℕ} (d : ℕ) (w : Way t p u) (R : Frame) (m : Option Term) (k : ℕ) → depthAt d w < k + d → entryAt (frameAt R m w) k ≡ entryAt R (k + d - depthAt d w)
+pub means-outside : {t u : Term} {p : ℕ} (d : ℕ) (w : Way t p u) (R : Frame) (M : List Term) (k : ℕ) → depthAt d w < k + d → entryAt (frameAt R M w) k ≡ entryAt R (k + d - depthAt d w)
 unfolding depthAt frameAt
-means-outside d here R m k l = ap (entryAt R) (same-place k d)
-means-outside d (in-argument h w) R m k l = means-outside d w R none k l
-means-outside d (past-argument {K = K} w) R m k l = means-outside d w R (some K) k l
-means-outside d (in-domain h w) R m k l = means-outside d w R none k l
-means-outside d (past-domain {U = U} w) R m k l = past R (entryOf m U) k d (depthAt (suc d) w) l (means-outside (suc d) w (R ▹ entryOf m U) none k (omega arith))
+means-outside d here R M k l = ap (entryAt R) (same-place k d)
+means-outside d (in-argument h w) R M k l = means-outside d w R [] k l
+means-outside d (past-argument {K = K} w) R M k l = means-outside d w R (K ∷ M) k l
+means-outside d (in-domain h w) R M k l = means-outside d w R [] k l
+means-outside d (past-domain {U = U} w) R M k l = past R (entryOf M U) k d (depthAt (suc d) w) l (means-outside (suc d) w (R ▹ entryOf M U) (unmatched couples M) k (omega arith))
 
 -- ---- Closed terms.
-entry-closed : {n : ℕ} {m : Option Term} {U : Term} → ((K : Term) → m ≡ some K → Closed n K) → Closed n U → ClosedEntry n (entryOf m U)
-unfolding entryOf
-entry-closed {m = none} c d = closed-single d
-entry-closed {m = some K} c d = closed-pair (c K refl) d
-
-no-applicator : {n : ℕ} (K : Term) → none ≡ some K → Closed n K
-no-applicator K e = no-some e
-
-one-applicator : {n : ℕ} {K : Term} → Closed n K → (L : Term) → some K ≡ some L → Closed n L
-one-applicator c L e = rw (← some-inj e) c
-
-closed-along : {R : Frame} {m : Option Term} {t u : Term} {p : ℕ} (n : ℕ) → depth R ≡ n → ClosedFrame R → ((K : Term) → m ≡ some K → Closed n K) → Closed n t → (w : Way t p u) → Closed (depth (frameAt R m w)) u
+closed-along : {R : Frame} {M : List Term} {t u : Term} {p : ℕ} (n : ℕ) → depth R ≡ n → ClosedFrame R → Before n M → Closed n t → (w : Way t p u) → Closed (depth (frameAt R M w)) u
 unfolding depth frameAt
 closed-along n q r c d here = rw q d
-closed-along n q r c (closed-app d b) (in-argument h w) = closed-along n q r no-applicator d w
-closed-along n q r c (closed-app d b) (past-argument w) = closed-along n q r (one-applicator d) b w
-closed-along n q r c (closed-abs d b) (in-domain h w) = closed-along n q r no-applicator d w
-closed-along n q r c (closed-abs d b) (past-domain w) = closed-along (suc n) (ap suc q) (closed-entry r (rw q (entry-closed c d))) no-applicator b w
+closed-along n q r c (closed-app d b) (in-argument h w) = closed-along n q r no-before d w
+closed-along n q r c (closed-app d b) (past-argument w) = closed-along n q r (before d c) b w
+closed-along n q r c (closed-abs d b) (in-domain h w) = closed-along n q r no-before d w
+closed-along n q r c (closed-abs d b) (past-domain w) = closed-along (suc n) (ap suc q) (closed-entry r (rw q (entryOf-closed c d))) (before-past couples c) b w
 
 pub way-closed : {R : Frame} {t u : Term} {p : ℕ} → ClosedFrame R → Closed (depth R) t → (w : Way t p u) → Closed (depth R + depthAt 0 w) u
-way-closed {R} {u = u} r c w = subst (λ n. Closed n u) (omega (arith, frame-depth 0 R none w)) (closed-along (depth R) refl r no-applicator c w)
+way-closed {R} {u = u} r c w = subst (λ n. Closed n u) (omega (arith, frame-depth 0 R [] w)) (closed-along (depth R) refl r no-before c w)
 
 -- ---- The last terminal and the type. `type` makes every entry single, which changes no U.
 pub data SameDomains : Frame → Frame → Type 0 where
   same-frame : {R : Frame} → SameDomains R R
   same-entry : {F G : Frame} {d e : Entry} → SameDomains F G → domain d ≡ domain e → SameDomains (F ▹ d) (G ▹ e)
 
-domain-entry : (m : Option Term) (U : Term) → domain (single U) ≡ domain (entryOf m U)
+pub domain-entry : (M : List Term) (U : Term) → domain (single U) ≡ domain (entryOf M U)
 unfolding domain entryOf
-domain-entry none U = refl
-domain-entry (some K) U = refl
+domain-entry [] U = refl
+domain-entry (K ∷ M) U = refl
 
 same-at : {F G : Frame} (j k : ℕ) → SameDomains F G → typeOfVar j (entryAt F k) ≡ typeOfVar j (entryAt G k)
 unfolding typeOfVar entryAt
@@ -194,7 +176,7 @@ same-at j (suc (suc k)) (same-entry f q) = same-at j (suc k) f
 -- Its last symbol, at place q, is tau, and the term has no type; or a variable, and its type is put there.
 pub data LastIs (t : Term) (q : ℕ) : Type 0 where
   ends-tau : Way t q tau → ((R : Frame) → type R t ≡ none) → LastIs t q
-  ends-variable : {k : ℕ} (w : Way t q (var k)) → ((F G : Frame) (m : Option Term) → SameDomains F G → type F t ≡ Option·map (put w) (typeOfVar k (entryAt (frameAt G m w) k))) → LastIs t q
+  ends-variable : {k : ℕ} (w : Way t q (var k)) → ((F G : Frame) (M : List Term) → SameDomains F G → type F t ≡ Option·map (put w) (typeOfVar k (entryAt (frameAt G M w) k))) → LastIs t q
 
 option-id : (o : Option Term) → o ≡ Option·map (λ x. x) o
 option-id none = refl
@@ -209,14 +191,14 @@ module _ (B : Term) where
   unfolding type put frameAt
   last-argument K (ends-tau w f) = ends-tau (past-argument w) (λ R. ap (Option·map (app K)) (f R))
   last-argument K (ends-variable {k} w f) = ends-variable (past-argument w)
-      (λ F G m s. ap (Option·map (app K)) (f F G (some K) s) ∙ option-map (app K) (put w) (typeOfVar k (entryAt (frameAt G (some K) w) k)))
+      (λ F G M s. ap (Option·map (app K)) (f F G (K ∷ M) s) ∙ option-map (app K) (put w) (typeOfVar k (entryAt (frameAt G (K ∷ M) w) k)))
 
   last-domain : (U : Term) {q : ℕ} → LastIs B q → LastIs (abs U B) (suc (size U + q))
   unfolding type put frameAt
   last-domain U (ends-tau w f) = ends-tau (past-domain w) (λ R. ap (Option·map (abs U)) (f (R ▹ single U)))
   last-domain U (ends-variable {k} w f) = ends-variable (past-domain w)
-      (λ F G m s. ap (Option·map (abs U)) (f (F ▹ single U) (G ▹ entryOf m U) none (same-entry {d = single U} {e = entryOf m U} s (domain-entry m U)))
-      ∙ option-map (abs U) (put w) (typeOfVar k (entryAt (frameAt (G ▹ entryOf m U) none w) k)))
+      (λ F G M s. ap (Option·map (abs U)) (f (F ▹ single U) (G ▹ entryOf M U) (unmatched couples M) (same-entry {d = single U} {e = entryOf M U} s (domain-entry M U)))
+      ∙ option-map (abs U) (put w) (typeOfVar k (entryAt (frameAt (G ▹ entryOf M U) (unmatched couples M) w) k)))
 
 final : (n : ℕ) (t : Term) → suc (n + (size t - 1)) ≡ suc (n + size t) - 1
 final n t = omega (arith, odd t)
@@ -224,6 +206,6 @@ final n t = omega (arith, odd t)
 pub last-is : (t : Term) → LastIs t (size t - 1)
 unfolding size type put frameAt
 last-is tau = ends-tau here (λ R. refl)
-last-is (var k) = ends-variable here (λ F G m s. same-at k k s ∙ option-id (typeOfVar k (entryAt G k)))
+last-is (var k) = ends-variable here (λ F G M s. same-at k k s ∙ option-id (typeOfVar k (entryAt G k)))
 last-is (app K B) = subst (LastIs (app K B)) (final (size K) B) (last-argument B K (last-is B))
 last-is (abs U B) = subst (LastIs (abs U B)) (final (size U) B) (last-domain B U (last-is B))

@@ -1,12 +1,14 @@
--- The abstractor that binds a variable within a body, and what stands before it, by the letters.
+-- The abstractor that binds a variable within a body, and the K of its couple, by the letters.
 -- Assumes nothing.
-use Prim.Native.Nat.{ℕ, suc, _+_, _≤_, _<_}
+use Prim.Native.Nat.{ℕ, zero, suc, _+_, _-_, _≤_, _<_}
 use mathlib.Core.Path.{_≡_}
-use mathlib.Core.Option.{Option, none, some}
-use mathlib.Core.List.{List}
+use mathlib.Core.Bool.{cond}
+use mathlib.Core.Option.{Option, some}
+use mathlib.Core.List.{List, []}
+use lib.Dec.{ltb, eqb}
 use lib.ListN.{length, getD}
-use Rattle.calculus.specs.Terms.{Term, var}
-use Rattle.calculus.specs.Frames.{Entry, single, pair, Frame, entryAt}
+use Rattle.calculus.specs.Terms.{Term, var, lift}
+use Rattle.calculus.specs.Frames.{Entry, single, pair, domain, Frame, entryAt}
 use Rattle.code.specs.Limits.{longestTerm, mostAbstractors}
 use Rattle.code.specs.Scope.{scope}
 use Rattle.letters.specs.Letters.{depths, letter, applicator, abstractor, symbolOf, depthOf, heightOf, Lies}
@@ -35,24 +37,25 @@ pub record Findable (s : List ℕ) (p d : ℕ) : Type 0 where
 pub record Found (s : List ℕ) (p d r : ℕ) : Type 0 where
   pub all : (h rest at : ℕ) → BinderAt s p d h rest at → r ≡ at
 
--- One more than the place of the applicator directly before the abstractor at q, which has depth d and height h, in its train; 0 if
--- there is none.
-pub data MateIs (s : List ℕ) (q d h : ℕ) : ℕ → Type 0 where
-  mate-first : q ≡ 0 → MateIs s q d h 0
-  mate-app : {a : ℕ} → a < q → ((j : ℕ) → a < j → j < q → h < heightOf (getD s j 0)) → getD s a 0 ≡ letter applicator d h → MateIs s q d h (a + 1)
-  mate-other : {a : ℕ} → a < q → ((j : ℕ) → a < j → j < q → h < heightOf (getD s j 0)) → heightOf (getD s a 0) ≤ h
-      → (symbolOf (getD s a 0) ≡ applicator → heightOf (getD s a 0) < h) → MateIs s q d h 0
+-- The search to the left of place i, in a train of height h, for the applicator that matches an abstractor, where n abstractors between
+-- are still to be matched and the wagon after i starts at `next`: where the K of that applicator starts and ends; 0 and 0 if there is none.
+unfoldable pub partnerFrom : List ℕ → ℕ → (i n next : ℕ) → ℕ × ℕ
+partnerFrom s h zero n next = (0, 0)
+partnerFrom s h (suc i) n next =
+    let x = getD s i 0 in
+    let matched = cond (eqb n 0) (suc i, next) (partnerFrom s h i (n - 1) i) in
+    let wagon = cond (eqb (symbolOf x) applicator) matched (partnerFrom s h i (suc n) i) in
+    let inside = partnerFrom s h i n next in
+    cond (ltb (heightOf x) h) (0, 0) (cond (eqb (heightOf x) h) wagon inside)
 
 pub record Matable (s : List ℕ) (q : ℕ) : Type 0 where
   pub array : length s ≡ longestTerm
   pub inside : q < longestTerm
-  pub d : ℕ
-  pub h : ℕ
-  pub shallow : d < depths
-  pub letter-there : getD s q 0 ≡ letter abstractor d h
 
-pub record Mated (s : List ℕ) (q r : ℕ) : Type 0 where
-  pub all : (d h y : ℕ) → d < depths → getD s q 0 ≡ letter abstractor d h → MateIs s q d h y → r ≡ y
+pub record Mated (s : List ℕ) (q : ℕ) (r : Binder) : Type 0 where
+  pub start-is : r .applied ≡ partnerFrom s (heightOf (getD s q 0)) q 0 q .0
+  pub end-is : r .end ≡ partnerFrom s (heightOf (getD s q 0)) q 0 q .1
+  pub abstractor-is : r .abstractor ≡ q
 
 -- THE FINDER. The U of an abstractor of depth d at q lies there, and ends before place p.
 pub record DomainLies (s : List ℕ) (p d q : ℕ) (U : Term) : Type 0 where
@@ -64,11 +67,17 @@ pub record DomainLies (s : List ℕ) (p d q : ℕ) (U : Term) : Type 0 where
   pub rest-height : heightOf (getD s rest 0) ≡ high
   pub few : d + scope U ≤ mostAbstractors
 
--- The entry that the descent makes of it lies where r says.
+-- The U of the entry that the descent makes of it is that one.
+pub record BindsDomain (s : List ℕ) (p d : ℕ) (meaning : Frame → Option Entry) (q : ℕ) : Type 0 where
+  pub entry : Entry
+  pub means : (R : Frame) → meaning R ≡ some entry
+  pub lies : DomainLies s p d q (domain entry)
+
+-- The whole entry lies where r says: its K, which is lifted past the abstractors between, as it stands there.
 pub data EntryLies (s : List ℕ) (p d : ℕ) (r : Binder) : Entry → Type 0 where
   lies-single : {U : Term} → r .applied ≡ 0 → DomainLies s p d (r .abstractor) U → EntryLies s p d r (single U)
-  lies-pair : {low : ℕ} {K U : Term} → 1 ≤ r .applied → Lies s (r .applied) (r .abstractor) d low K → d + scope K ≤ mostAbstractors → DomainLies s p d (r .abstractor) U
-      → EntryLies s p d r (pair K U)
+  lies-pair : {c low : ℕ} {K U : Term} → 1 ≤ r .applied → depthOf (getD s (r .applied - 1) 0) ≡ c → c ≤ d → Lies s (r .applied) (r .end) c low K → c + scope K ≤ mostAbstractors → r .end ≤ p
+      → DomainLies s p d (r .abstractor) U → EntryLies s p d r (pair (lift (d - c) 0 K) U)
 
 pub record Binds (s : List ℕ) (p d : ℕ) (meaning : Frame → Option Entry) (r : Binder) : Type 0 where
   pub entry : Entry
@@ -91,4 +100,4 @@ pub record SomeBound (s : List ℕ) (p d : ℕ) : Type 0 where
   pub bound : BoundInside s n p k d way
 
 pub record Finds (s : List ℕ) (p d : ℕ) (r : Binder) : Type 0 where
-  pub all : (n k : ℕ) (t : Term) (w : Way t p (var k)) → BoundInside s n p k d w → Binds s p d (λ R. entryAt (frameAt R none w) k) r
+  pub all : (n k : ℕ) (t : Term) (w : Way t p (var k)) → BoundInside s n p k d w → Binds s p d (λ R. entryAt (frameAt R [] w) k) r

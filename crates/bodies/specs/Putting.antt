@@ -1,4 +1,4 @@
--- A term takes the place of a variable, lifted by its index: U for a type, K for a local step.
+-- A term takes the place of a variable, lifted: U for a type, K for a local step.
 -- Assumes nothing.
 use Prim.Native.Nat.{ℕ, _+_, _-_, _≤_, _<_}
 use mathlib.Core.Path.{_≡_}
@@ -18,27 +18,26 @@ use Rattle.bodies.specs.Held.{Held, FormAs}
 use Rattle.bodies.specs.declared.Form.{Form}
 use Rattle.bodies.specs.declared.Source.{Source}
 
--- The term for variable k at place p, which has depth d, stands where x says: in the frame's bytes w, or among the letters before p.
-pub data SourceIs (w s : List ℕ) (p k d : ℕ) (x : Source) (K : Term) : Type 0 where
-  in-frame : x .framed ≡ true → Stands w (x .start) (x .end) K → SourceIs w s p k d x K
-  in-body : {c low : ℕ} → x .framed ≡ false → c + k ≡ d → Lies s (x .start) (x .end) c low K → c + scope K ≤ mostAbstractors → x .end ≤ p → SourceIs w s p k d x K
+-- The term for a variable at place p, which has depth d, stands where x says: in the frame's bytes w, or among the letters before p.
+pub data SourceIs (w s : List ℕ) (p d : ℕ) (x : Source) (K : Term) : Type 0 where
+  in-frame : x .framed ≡ true → x .lift ≤ mostAbstractors → Stands w (x .start) (x .end) K → SourceIs w s p d x K
+  in-body : {c low : ℕ} → x .framed ≡ false → c + x .lift ≡ d → Lies s (x .start) (x .end) c low K → c + scope K ≤ mostAbstractors → x .end ≤ p → SourceIs w s p d x K
 
 -- Lifted, with its first letter at depth d and height h, it has room from p on; `room` of its abstractors may be in scope.
-pub record Sourced (w s : List ℕ) (p k d h room : ℕ) (x : Source) : Type 0 where
+pub record Sourced (w s : List ℕ) (p d h room : ℕ) (x : Source) : Type 0 where
   pub work : length w ≡ longestState
   pub array : length s ≡ longestTerm
   pub term : Term
-  pub source : SourceIs w s p k d x term
-  pub index : k ≤ mostAbstractors
+  pub source : SourceIs w s p d x term
   pub deep : d + room ≤ mostAbstractors
   pub high : h + x .end ≤ x .start + longestTerm
   pub fits : p + (x .end - x .start) ≤ longestTerm
 
-pub record SourceWritten (w s s′ : List ℕ) (p k d h room : ℕ) (x : Source) (answer : Bool) : Type 0 where
-  pub all : (K : Term) → SourceIs w s p k d x K → ReadAs k d h room s s′ p K answer
+pub record SourceWritten (w s s′ : List ℕ) (p d h room : ℕ) (x : Source) (answer : Bool) : Type 0 where
+  pub all : (K : Term) → SourceIs w s p d x K → ReadAs (x .lift) d h room s s′ p K answer
   pub same-length : length s′ ≡ length s
 
--- Variable k stands at place p of a body after a frame of len entries, and a term for it where x says.
+-- A variable stands at place p of a body after a frame of len entries, and a term for it where x says.
 pub record Puttable (w : List ℕ) (len : ℕ) (s : List ℕ) (n p : ℕ) (x : Source) : Type 0 where
   pub frames : FrameRecord
   pub entries : frames .len ≡ len
@@ -48,10 +47,10 @@ pub record Puttable (w : List ℕ) (len : ℕ) (s : List ℕ) (n p : ℕ) (x : S
   pub way : Way body p (var k)
   pub held : Held w frames s n frame body
   pub term : Term
-  pub source : SourceIs w s p k (depthAt 0 way) x term
+  pub source : SourceIs w s p (depthAt 0 way) x term
 
 -- The body with that term in its place, which is closed, is over the limits, or s′ holds it.
 pub record PutsTerm (w : List ℕ) (len : ℕ) (s s′ : List ℕ) (n p : ℕ) (x : Source) (r : Form) : Type 0 where
-  pub all : (f : FrameRecord) → f .len ≡ len → (R : Frame) (t : Term) (k : ℕ) (way : Way t p (var k)) (K : Term) → Held w f s n R t → SourceIs w s p k (depthAt 0 way) x K
-      → Closed (depth R) (put way (lift k 0 K)) → FormAs w f s′ R (put way (lift k 0 K)) r
+  pub all : (f : FrameRecord) → f .len ≡ len → (R : Frame) (t : Term) (k : ℕ) (way : Way t p (var k)) (K : Term) → Held w f s n R t → SourceIs w s p (depthAt 0 way) x K
+      → Closed (depth R) (put way (lift (x .lift) 0 K)) → FormAs w f s′ R (put way (lift (x .lift) 0 K)) r
   pub same-length : length s′ ≡ length s

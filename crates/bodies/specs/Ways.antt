@@ -1,10 +1,10 @@
 -- The way to a place of a term, counted in symbols from 0, along which a step descends; and what stands along it.
 -- Assumes nothing.
 use Prim.Native.Nat.{ℕ, suc, _+_, _<_}
-use mathlib.Core.Option.{Option, none, some}
+use mathlib.Core.List.{List, [], _∷_}
 use Rattle.calculus.specs.Terms.{Term, app, abs, size}
 use Rattle.calculus.specs.Frames.{Frame, _▹_}
-use Rattle.calculus.specs.Steps.{entryOf}
+use Rattle.calculus.specs.Steps.{couples, entryOf, unmatched}
 
 -- The subterm u stands at place p of t: at its start, inside its K, after ⟨K⟩, inside its U, or after [U].
 pub data Way : Term → ℕ → Term → Type 0 where
@@ -22,13 +22,13 @@ put (past-argument {K = K} w) x = app K (put w x)
 put (in-domain {B = B} l w) x = abs (put w x) B
 put (past-domain {U = U} w) x = abs U (put w x)
 
--- The frame there, as `stepAt` has it: t stands after R, and m is the applicator directly before t, if there is one.
-unfoldable pub frameAt : {t u : Term} {p : ℕ} → Frame → Option Term → Way t p u → Frame
-frameAt R m here = R
-frameAt R m (in-argument l w) = frameAt R none w
-frameAt R m (past-argument {K = K} w) = frameAt R (some K) w
-frameAt R m (in-domain l w) = frameAt R none w
-frameAt R m (past-domain {U = U} w) = frameAt (R ▹ entryOf m U) none w
+-- The frame there, as `stepAt` has it: t stands after R, and M are the applicators before t in its train that are not yet matched.
+unfoldable pub frameAt : {t u : Term} {p : ℕ} → Frame → List Term → Way t p u → Frame
+frameAt R M here = R
+frameAt R M (in-argument l w) = frameAt R [] w
+frameAt R M (past-argument {K = K} w) = frameAt R (K ∷ M) w
+frameAt R M (in-domain l w) = frameAt R [] w
+frameAt R M (past-domain {U = U} w) = frameAt (R ▹ entryOf M U) (unmatched couples M) w
 
 -- The depth and the height there, where t has d and h.
 unfoldable pub depthAt : {t u : Term} {p : ℕ} → ℕ → Way t p u → ℕ

@@ -41,17 +41,19 @@ pub enum Form {
     Length(usize),
 }
 
-// A variable's abstractor in the body, and where the K directly before it starts: 0 if there is none.
+// A variable's abstractor in the body, and the K of its couple: where that starts, 0 if there is none, and where it ends.
 struct Binder {
     applied: usize,
+    end: usize,
     abstractor: usize,
 }
 
-// A term that is to take a variable's place: in the frame's bytes, or among the body's letters.
+// A term that is to take a variable's place, in the frame's bytes or among the body's letters, and by how much it is lifted.
 struct Source {
     framed: bool,
     start: usize,
     end: usize,
+    lift: usize,
 }
 
 // ---- Parts of the array.
@@ -142,38 +144,57 @@ fn abstractor_of(s: &Letters, p: usize, d: usize) -> usize
     p
 }
 
-// One more than the place of the applicator directly before the abstractor at q in its train, 0 if there is none.
-fn partner_of(s: &Letters, q: usize) -> usize
+// The abstractor at q, and the K of the applicator that matches it in its train: wagons of the train are passed from right to left, and
+// `unmatched` of the abstractors among them are still to be matched; `next` is the last one passed.
+fn partner_of(s: &Letters, q: usize) -> Binder
     requires { ⌜ Matable (now s) q ⌝ }
     ensures { λ r. ⌜ Mated (now (s .entry)) q r ⌝ }
 {
-    let y = s[q];
-    let h = height_of(y);
+    let h = height_of(s[q]);
+    let mut unmatched: usize = 0;
+    let mut next = q;
     let mut i = q;
     while i > 0 {
         i -= 1;
         let x = s[i];
-        if height_of(x) <= h {
-            if x == y - 1 {
-                return i + 1;
+        let g = height_of(x);
+        if g < h {
+            return Binder {
+                applied: 0,
+                end: 0,
+                abstractor: q,
+            };
+        }
+        if g == h {
+            if symbol_of(x) == APPLICATOR {
+                if unmatched == 0 {
+                    return Binder {
+                        applied: i + 1,
+                        end: next,
+                        abstractor: q,
+                    };
+                }
+                unmatched -= 1;
+            } else {
+                unmatched += 1;
             }
-            return 0;
+            next = i;
         }
     }
-    0
+    Binder {
+        applied: 0,
+        end: 0,
+        abstractor: q,
+    }
 }
 
-// The binder of the variable at place p, an abstractor of depth d, and its partner. Couples will change this function alone.
+// The binder of the variable at place p, an abstractor of depth d, and what it matches.
 fn find(s: &Letters, p: usize, d: usize) -> Binder
     requires { ⌜ SomeBound (now s) p d ⌝ }
     ensures { λ r. ⌜ Finds (now (s .entry)) p d r ⌝ }
 {
     let q = abstractor_of(s, p, d);
-    let a = partner_of(s, q);
-    Binder {
-        applied: a,
-        abstractor: q,
-    }
+    partner_of(s, q)
 }
 
 // ---- Lifting.
@@ -240,21 +261,21 @@ pub fn deepest(s: &Letters, from: usize, to: usize) -> u32
 }
 
 // ---- A term in a variable's place.
-// The term for variable k, lifted, goes to p, its first letter at depth d and height h. Not, if more than `room` of its abstractors are
-// in scope anywhere.
+// The term that x says, lifted, goes to p, its first letter at depth d and height h. Not, if more than `room` of its abstractors are in
+// scope anywhere.
 fn write_source(
     s: &mut Letters,
     work: &Work,
     x: Source,
-    k: usize,
     d: usize,
     h: usize,
     room: usize,
     p: usize,
 ) -> bool
-    requires { ⌜ Sourced (now work) (now s) p k d h room x ⌝ }
-    ensures { λ r. ⌜ SourceWritten (now (work .entry)) (now (s .entry)) (now (s .exit)) p k d h room x r ⌝ }
+    requires { ⌜ Sourced (now work) (now s) p d h room x ⌝ }
+    ensures { λ r. ⌜ SourceWritten (now (work .entry)) (now (s .entry)) (now (s .exit)) p d h room x r ⌝ }
 {
+    let k = x.lift;
     if x.framed {
         return read(work, x.start, x.end, k, d, h, room, s, p);
     }
@@ -280,7 +301,7 @@ fn put(s: &mut Letters, n: usize, work: &Work, len: usize, p: usize, x: Source) 
     let d = depth_of(v);
     let room = MOST_ABSTRACTORS - len - d;
     move_right(s, p + 1, n, size - 1);
-    if !write_source(s, work, x, symbol_of(v), d, height_of(v), room, p) {
+    if !write_source(s, work, x, d, height_of(v), room, p) {
         return Form::Outgrown;
     }
     Form::Length(m)
@@ -310,7 +331,8 @@ pub fn local(s: &mut Letters, n: usize, work: &Work, f: FrameRecord, p: usize) -
         let x = Source {
             framed: false,
             start: applied,
-            end: b.abstractor,
+            end: b.end,
+            lift: d - depth_of(s[applied - 1]),
         };
         return put(s, n, work, len, p, x);
     }
@@ -323,6 +345,7 @@ pub fn local(s: &mut Letters, n: usize, work: &Work, f: FrameRecord, p: usize) -
         framed: true,
         start: start,
         end: e.domain - 1,
+        lift: k,
     };
     put(s, n, work, len, p, x)
 }
@@ -341,14 +364,14 @@ pub fn type_in_place(s: &mut Letters, n: usize, work: &Work, f: FrameRecord) -> 
     }
     let d = depth_of(v);
     if k <= d {
-        let b = find(s, p, d - k);
-        let q = b.abstractor;
+        let q = abstractor_of(s, p, d - k);
         let h = height_of(s[q]);
         let end = end_of(s, n, q + 1, h + 1);
         let x = Source {
             framed: false,
             start: q + 1,
             end: end,
+            lift: k,
         };
         return put(s, n, work, len, p, x);
     }
@@ -357,6 +380,7 @@ pub fn type_in_place(s: &mut Letters, n: usize, work: &Work, f: FrameRecord) -> 
         framed: true,
         start: e.domain,
         end: e.end,
+        lift: k,
     };
     put(s, n, work, len, p, x)
 }

@@ -13,7 +13,7 @@ use borrow.Author.Tests.{leb-true}
 use Rattle.calculus.specs.Terms.{Term, size, Closed}
 use Rattle.calculus.specs.Frames.{ε, depth, closed-empty}
 use Rattle.calculus.specs.Types.{type}
-use Rattle.calculus.specs.Steps.{Step, Outcome, step, replay}
+use Rattle.calculus.specs.Steps.{Step, couples, Outcome, step, replay}
 use Rattle.calculus.specs.Whole.{at, wholeSteps}
 use Rattle.calculus.proofs.Whole.{spelling}
 use Rattle.calculus.specs.Steps as calculus
@@ -185,9 +185,9 @@ degree-none : (s out out′ : List ℕ) → DegreeOne s × (out′ ≡ out) → 
 unfolding typeAnswer typeAnswerOf typeWritten
 degree-none s out out′ (d, q) = rw (d .accepts, degrees-hold .no-type ε (d .term) .1 (d .degree-one), q)
 
-step-whole : (s out : List ℕ) (t : Term) (p : ℕ) → examined s ≡ accepted t → stepAnswer s (at 3 p) out ≡ stepWritten out (replay ε (wholeSteps t p) t)
+step-whole : (s out : List ℕ) (t : Term) (p : ℕ) → examined s ≡ accepted t → stepAnswer s (at 3 p) out ≡ stepWritten out (replay ε (wholeSteps couples t p) t)
 unfolding stepAnswer stepAnswerOf
-step-whole s out t p h = ap (stepAnswerOf out (at 3 p)) h ∙ ap (stepWritten out) (spelling .as-steps ε t p)
+step-whole s out t p h = ap (stepAnswerOf out (at 3 p)) h ∙ ap (stepWritten out) (spelling .as-steps couples ε t p)
 
 pub promised : Promises
 promised =

@@ -10,7 +10,7 @@ use lib.Seq.{sets}
 use Rattle.calculus.specs.Terms.{Term, size, Closed}
 use Rattle.calculus.specs.Frames.{ε}
 use Rattle.calculus.specs.Types.{degree, type}
-use Rattle.calculus.specs.Steps.{Step, step, replay, reached}
+use Rattle.calculus.specs.Steps.{Step, couples, step, replay, reached}
 use Rattle.calculus.specs.Whole.{at, wholeSteps}
 use Rattle.code.specs.Refusals as refusals
 use Rattle.code.specs.Code.{Bytes, encode, decode}
@@ -59,4 +59,4 @@ pub record Promises : Type 0 where
   pub type-kept : (s out : List ℕ) {out′ : List ℕ} {number place n : ℕ} → typeAnswer s out ≡ answer number place n out′ → (number ≡ refusals.accepted → ⊥) → (n ≡ 0) × (out′ ≡ out)
   pub step-kept : (s out : List ℕ) (x : Step) {out′ : List ℕ} {number place n : ℕ} → stepAnswer s x out ≡ answer number place n out′ → (number ≡ refusals.accepted → ⊥) → (n ≡ 0) × (out′ ≡ out)
   -- kind 3 answers as local steps at all uses, from left to right, and then a removal would, if only the last form were measured
-  pub step-whole : (s out : List ℕ) (t : Term) (p : ℕ) → examined s ≡ accepted t → stepAnswer s (at 3 p) out ≡ stepWritten out (replay ε (wholeSteps t p) t)
+  pub step-whole : (s out : List ℕ) (t : Term) (p : ℕ) → examined s ≡ accepted t → stepAnswer s (at 3 p) out ≡ stepWritten out (replay ε (wholeSteps couples t p) t)

@@ -7,7 +7,7 @@ use native.Mathlib.Omega.{arith}
 use lib.ListN.{length, drop, length-append, length-map}
 use Rattle.calculus.specs.Terms.{Term, Closed}
 use Rattle.calculus.specs.Frames.{ε}
-use Rattle.calculus.specs.Steps.{full}
+use Rattle.calculus.specs.Steps.{latest}
 use Rattle.calculus.specs.Types.{degree}
 use Rattle.calculus.specs.Rules.{Group, groups}
 use Rattle.code.specs.Code.{Bytes, encode}
@@ -42,7 +42,7 @@ checked {s} b a = record {
 }
 
 -- an opened file's answer
-from-opened : {r : CheckAnswer} (s : List ℕ) {o : Opened} → openFile s ≡ o → CheckedAs r (checkOpenedBy full o) → CheckedAs r (checkFile s)
+from-opened : {r : CheckAnswer} (s : List ℕ) {o : Opened} → openFile s ≡ o → CheckedAs r (checkOpenedBy latest o) → CheckedAs r (checkFile s)
 unfolding checkFileBy
 from-opened s h c = rw h c
 

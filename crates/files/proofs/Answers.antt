@@ -13,16 +13,18 @@ use lib.ListN.{length, drop, length-append, length-map, length-drop, drop-of-len
 use Rattle.calculus.specs.Terms.{Term, applicators, size, Closed}
 use Rattle.calculus.specs.Frames.{Frame, ε, depth}
 use Rattle.calculus.specs.Types.{degree}
-use Rattle.calculus.specs.Steps.{Step, Kind, base, full, kindIn, reached, stepOf, stepBy, step}
+use Rattle.calculus.specs.Steps.{Step, Kind, Reach, Reading, pairs, couples, base, full, latest, reachOf, kindIn, reached, stepOf, stepBy, step}
 use Rattle.calculus.specs.Rules.{Group, own, Next, onePassNext, Holds, nothing-left, met, by-rule, OnePass, groups, correct-empty}
+use Rattle.calculus.specs.Whole.{wider, Later, full-full}
 use Rattle.calculus.proofs.Lift.{lo, hi, cmp}
 use Rattle.calculus.proofs.Weaken.{refused-reached}
 use Rattle.calculus.proofs.Places.{step-past}
 use Rattle.calculus.proofs.Agree.{plain-of-one-pass, length-groups}
 use Rattle.calculus.proofs.Closed.{plain-closed}
 use Rattle.calculus.proofs.Promises.{demanding}
-use Rattle.calculus.proofs.Whole.{readings}
+use Rattle.calculus.proofs.Later.{readings}
 use Rattle.code.specs.Limits.{longestFile, longestTerm, longestState, mostAbstractors}
+use Rattle.code.specs.Refusals.{accepted, stepNotPossible}
 use Rattle.code.specs.Code.{Bytes, encode}
 use Rattle.code.specs.Scope.{scope}
 use Rattle.code.proofs.RoundTrip.{decode-encode, encode-decode, encode-bytes, bytes-drop}
@@ -37,14 +39,15 @@ use Rattle.examine.specs.Inspect.{Examined, examined, termAnswer}
 use Rattle.examine.specs.Inspect as term
 use Rattle.examine.proofs.Laws.{examining-holds}
 use Rattle.verdict.specs.Bounds.{bodyFits, stateFits, stateScope, stateSize, frameScope, waitingScope}
-use Rattle.verdict.specs.Verdict.{Progress, Run, passed, stopped, checkTerm, number, Ground}
-use Rattle.verdict.specs.Claims.{StateFits, FormsFit, no-form, next-form, AllFit, progressOf}
+use Rattle.verdict.specs.Verdict.{Progress, Run, passed, stopped, checkTermBy, checkTerm, number, Ground}
+use Rattle.verdict.specs.Claims.{StateFits, FormsFit, no-form, next-form, AllFit, progressOf, RefusedStep, refused-step}
 use Rattle.verdict.proofs.Runs.{cond-both}
 use Rattle.verdict.proofs.Former.{former-runs}
+use Rattle.verdict.proofs.Later.{later-runs}
 use Rattle.verdict.proofs.Promises.{passing, stopping}
 use Rattle.files.specs.File.{Opened, refused, opened, openTerm, openFields, openFile}
 use Rattle.files.specs.Check.{CheckAnswer, groupsOf, leftOver, checkAnswerOf, checkOpenedBy, checkFileBy, checkFile}
-use Rattle.files.specs.Claims.{Accepted, Refused, before-the-walk, later, WithinLimits, Accepting, Refusing, WithoutWhole, FormerFiles}
+use Rattle.files.specs.Claims.{Accepted, Refused, before-the-walk, later, WithinLimits, Accepting, Refusing, WithoutWhole, FormerFiles, LaterFiles}
 
 -- WHAT OPENS
 opened-inj-term : {t u : Term} {e f : ℕ} {gs hs : List GroupAt} → opened t e gs ≡ opened u f hs → (t ≡ u) × (e ≡ f) × (gs ≡ hs)
@@ -164,7 +167,7 @@ pub says : (s : List ℕ) → Bytes s → Says s (checkFile s)
 unfolding checkFileBy checkOpenedBy
 says s b = go (openFile s) refl
   where
-    go : (o : Opened) → openFile s ≡ o → Says s (checkOpenedBy full o)
+    go : (o : Opened) → openFile s ≡ o → Says s (checkOpenedBy latest o)
     go (refused n p) h = let m = before-numbers s h in (λ z. absurd (omega arith), λ k. before-the-walk (m .0) (m .1) refl refl)
     go (opened t e gs) h = run-says s t e gs (opens s t e gs h) b (checkTerm t (groupsOf gs)) refl
 
@@ -208,12 +211,12 @@ accepted-file t d w =
     let same : groupsOf gs ≡ groups d = same-groups e (groups d) in
     let h : checkTerm t (groupsOf gs) ≡ passed (r .0) = ap (checkTerm t) (same ∙ sym (append-nil (groups d))) ∙ r .1 in
     let many = length-map gs (λ (g : GroupAt). g .group) in
-    ap (checkOpenedBy full) (written-opens t d (w .states-and-forms .first) (w .term) (w .file))
+    ap (checkOpenedBy latest) (written-opens t d (w .states-and-forms .first) (w .term) (w .file))
     ∙ ap (checkAnswerOf (degree ε t) gs) h
     ∙ all-answer (r .0 .comparisons) (applicators t) (degree ε t) gs (omega (arith, r .3, many, ap length same)) (r .3 ∙ length-groups ε [] t d ∙ zero-add (applicators t))
 
 -- a step that is not refused has one of the known kinds, and its place is in the body
-known-kind : (n : ℕ) → 256 ≤ n → kindIn full n ≡ none
+known-kind : (n : ℕ) → 256 ≤ n → kindIn latest n ≡ none
 unfolding kindIn
 known-kind n h = rw (ne-eqb n 1 (λ e. omega arith), ne-eqb n 2 (λ e. omega arith), ne-eqb n 3 (λ e. omega arith))
 
@@ -225,15 +228,15 @@ step-kind R s t e = elim (cmp 256 (s .kind)) [
 ]
 
 step-place : (R : Frame) (s : Step) (t : Term) {u : Term} → step R s t ≡ reached u → s .place < size t
-unfolding stepBy stepOf
+unfolding stepBy stepOf reachOf
 step-place R s t e = elim (cmp (size t) (s .place)) [
-  | lo h ↦ go (kindIn full (s .kind)) h e
+  | lo h ↦ go (kindIn latest (s .kind)) h e
   | hi h ↦ h
 ]
   where
-    go : {u : Term} (o : Option Kind) → size t ≤ s .place → stepOf o R t (s .place) ≡ reached u → s .place < size t
+    go : {u : Term} (o : Option Kind) → size t ≤ s .place → stepOf couples o R t (s .place) ≡ reached u → s .place < size t
     go none h q = refused-reached q
-    go (some κ) h q = refused-reached (sym (step-past κ R none t (s .place) h) ∙ q)
+    go (some κ) h q = refused-reached (sym (step-past couples κ R [] t (s .place) h) ∙ q)
 
 fits-short : (R : Frame) (t : Term) → bodyFits R t ≡ true → size t ≤ longestTerm
 unfolding bodyFits
@@ -267,13 +270,37 @@ pub refusing : Refusing
 refusing = record { otherwise = λ s b. says s b .1 }
 
 -- WITHOUT KIND 3 the answer is that of the check with kinds 1 and 2
-as-before : (s : List ℕ) → WithoutWhole s → checkFileBy base s ≡ checkFile s
+as-before : (x : Reach) (s : List ℕ) → WithoutWhole s → checkFileBy (base x) s ≡ checkFileBy (full x) s
 unfolding checkFileBy checkOpenedBy
-as-before s w = go (openFile s) refl
+as-before x s w = go (openFile s) refl
   where
-    go : (o : Opened) → openFile s ≡ o → checkOpenedBy base o ≡ checkOpenedBy full o
+    go : (o : Opened) → openFile s ≡ o → checkOpenedBy (base x) o ≡ checkOpenedBy (full x) o
     go (refused n p) h = refl
-    go (opened t e gs) h = ap (checkAnswerOf (degree ε t) gs) (former-runs .as-before t (groupsOf gs) (w .groups t e gs h))
+    go (opened t e gs) h = ap (checkAnswerOf (degree ε t) gs) (former-runs .as-before x t (groupsOf gs) (w .groups t e gs h))
 
 pub former-files : FormerFiles
-former-files = record { as-before = as-before; correct-before = λ s c d a. (readings .one-pass (own ε [] (a .term)) .1 (a .one-pass), readings .plain (own ε [] (a .term)) .1 (a .plain)) }
+former-files = record {
+  as-before = as-before;
+  correct-before = λ s c d a. (readings .one-pass couples (own ε [] (a .term)) .1 (a .one-pass), readings .plain couples (own ε [] (a .term)) .1 (a .plain));
+}
+
+-- UNDER A LATER READING the answer stays, unless a step was refused
+answer-of-step : (d : ℕ) (gs : List GroupAt) (r : Run) → RefusedStep r → checkAnswerOf d gs r .number ≡ stepNotPossible
+unfolding checkAnswerOf number
+answer-of-step d gs r refused-step = refl
+
+other-answers : {y z : Reading} → Later y z → (s : List ℕ) → (checkFileBy y s .number ≡ stepNotPossible → ⊥) → checkFileBy z s ≡ checkFileBy y s
+unfolding checkFileBy checkOpenedBy
+other-answers {y} {z} l s h = go (openFile s) h
+  where
+    go : (o : Opened) → (checkOpenedBy y o .number ≡ stepNotPossible → ⊥) → checkOpenedBy z o ≡ checkOpenedBy y o
+    go (refused n p) k = refl
+    go (opened t e gs) k =
+        let f = checkAnswerOf (degree ε t) gs in
+        ap f (later-runs .stays l t (groupsOf gs) (λ x. k (answer-of-step (degree ε t) gs (checkTermBy y t (groupsOf gs)) x)))
+
+accepted-before : (s : List ℕ) → checkFileBy (full pairs) s .number ≡ accepted → checkFile s ≡ checkFileBy (full pairs) s
+accepted-before s h = other-answers (full-full wider) s (λ e. omega arith)
+
+pub later-files : LaterFiles
+later-files = record { other-answers = other-answers; accepted-before = accepted-before }

@@ -7,12 +7,12 @@ use lib.ListN.{length}
 use Rattle.calculus.specs.Terms.{Term, applicators, size, Closed}
 use Rattle.calculus.specs.Frames.{ε}
 use Rattle.calculus.specs.Types.{degree}
-use Rattle.calculus.specs.Steps.{base}
+use Rattle.calculus.specs.Steps.{Reach, pairs, couples, Reading, base, full}
 use Rattle.calculus.specs.Rules.{Group, own, Comparison, plainNext, PlainBy, Plain, OnePassBy, OnePass, groups}
-use Rattle.calculus.specs.Whole.{NoWholes}
+use Rattle.calculus.specs.Whole.{NoWholes, Later}
 use Rattle.calculus.specs.Walks.{AllMet, End, WalkFrom}
 use Rattle.code.specs.Limits.{longestFile, longestTerm}
-use Rattle.code.specs.Refusals.{accepted, cutShort, tooManyInScope, noType, groupsLeft}
+use Rattle.code.specs.Refusals.{accepted, cutShort, tooManyInScope, noType, stepNotPossible, groupsLeft}
 use Rattle.code.specs.Code.{Bytes, encode}
 use Rattle.fields.specs.Fields.{GroupAt}
 use Rattle.fields.specs.Files.{writeFile}
@@ -67,7 +67,15 @@ pub record Refusing : Type 0 where
 pub record WithoutWhole (s : List ℕ) : Type 0 where
   pub groups : (t : Term) (e : ℕ) (gs : List GroupAt) → openFile s ≡ opened t e gs → NoWholes (groupsOf gs)
 
--- Then its answer is that of the check with kinds 1 and 2. And whatever the file, the term of an accepted one is correct by kinds 1 and 2.
+-- Then its answer is that of the check with kinds 1 and 2, over either reach. And whatever the file, the term of an accepted one is correct
+-- by kinds 1 and 2.
 pub record FormerFiles : Type 0 where
-  pub as-before : (s : List ℕ) → WithoutWhole s → checkFileBy base s ≡ checkFile s
-  pub correct-before : (s : List ℕ) (c d : ℕ) (a : Accepted s c d) → OnePassBy base (own ε [] (a .term)) × PlainBy base (own ε [] (a .term))
+  pub as-before : (x : Reach) (s : List ℕ) → WithoutWhole s → checkFileBy (base x) s ≡ checkFileBy (full x) s
+  pub correct-before : (s : List ℕ) (c d : ℕ) (a : Accepted s c d)
+      → OnePassBy (base couples) (own ε [] (a .term)) × PlainBy (base couples) (own ε [] (a .term))
+
+-- Requests (a) and (d). Of any file, an answer whose number is not 10 is its answer, all four numbers, under every later reading. So what
+-- is accepted over pairs is accepted over couples.
+pub record LaterFiles : Type 0 where
+  pub other-answers : {y z : Reading} → Later y z → (s : List ℕ) → (checkFileBy y s .number ≡ stepNotPossible → ⊥) → checkFileBy z s ≡ checkFileBy y s
+  pub accepted-before : (s : List ℕ) → checkFileBy (full pairs) s .number ≡ accepted → checkFile s ≡ checkFileBy (full pairs) s

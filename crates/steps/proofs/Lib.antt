@@ -1,7 +1,8 @@
 -- The laws of this crate.
 -- Assumes nothing.
 pub mod Lowering
-pub mod Pairs
+pub mod Trains
+pub mod Couples
 pub mod Removing
 pub mod Filling
 pub mod Writing

@@ -1,5 +1,5 @@
 -- The definitions and contracts of this crate.
 -- Assumes nothing.
 pub mod Lowering
-pub mod Pairs
+pub mod Couples
 pub mod Filling

@@ -1,6 +1,6 @@
-// Steps on a body held as letters, after a frame (document 01, 'Steps'; request (a)).
+// Steps on a body held as letters, after a frame (document 01, 'Steps'; requests (a) and (d)).
 ghost use mathlib.Core.Path.{_≡_};
-ghost use mathlib.Core.List.{List};
+ghost use mathlib.Core.List.{List, _++_};
 ghost use Prim.Native.Nat.{ℕ, _+_, _-_, _≤_, _<_, max};
 ghost use lib.ListN.{length};
 ghost use Rattle.code.specs.Limits.{longestTerm};
@@ -10,7 +10,7 @@ ghost use Rattle.parts.specs.Parts.{part, Copied};
 ghost use Rattle.bodies.specs.Held.{SomeHeld, Steps};
 ghost use Rattle.bodies.specs.Moving.{Mapped, TermLiftable, Lifts, Spliced};
 ghost use Rattle.steps.specs.Lowering.{loweredLetter, useOf, InScope};
-ghost use Rattle.steps.specs.Pairs.{InSomeBody, InBodyAfter, Searches, SomePair};
+ghost use Rattle.steps.specs.Couples.{InSomeBody, InBodyAfter, SomeTrain, Partnered, remaining, Searches};
 ghost use Rattle.steps.specs.Filling.{useDepth, UsesAre, filling, LetterFillable, LetterFills, Fillable, Fills, Rewritable};
 use bodies::Form;
 use bodies::NO_PARTNER;
@@ -29,7 +29,6 @@ use code::numbers::LONGEST_TERM;
 use code::numbers::MOST_ABSTRACTORS;
 use frames::FrameRecord;
 use frames::Work;
-use letters::ABSTRACTOR;
 use letters::APPLICATOR;
 use letters::Letters;
 use letters::depth_of;
@@ -37,54 +36,86 @@ use letters::height_of;
 use letters::symbol_of;
 use letters::wide;
 
-// ---- Pairs.
-// The pair ⟨K⟩[U]B at a place: its applicator's depth, and the places of its abstractor, of B and of B's end. If there is none, why.
-struct Pair {
+// ---- Couples.
+// The couple ⟨K⟩..[U]B at a place: the depths of its applicator and of its abstractor, and the places of what stands between, of its
+// abstractor, of B and of B's end. If there is none, why.
+struct Couple {
     reason: u32,
+    outer: u32,
     depth: u32,
+    between: usize,
     abstractor: usize,
     rest: usize,
     end: usize,
 }
 
-fn no_pair(reason: u32) -> Pair
+fn no_couple(reason: u32) -> Couple
     ensures { λ r. ⌜ r .reason ≡ reason ⌝ }
 {
-    Pair {
+    Couple {
         reason: reason,
+        outer: 0,
         depth: 0,
+        between: 0,
         abstractor: 0,
         rest: 0,
         end: 0,
     }
 }
 
-// The pair at place p of the body in the first n letters. Couples will change this function alone.
-fn pair_at(s: &Letters, n: usize, p: usize) -> Pair
+// The place of the abstractor that matches an applicator of height h, where the train goes on at m behind its K; n if there is none. Of the
+// applicators passed, `unmatched` are still to be matched.
+fn abstractor_after(s: &Letters, n: usize, m: usize, h: usize) -> usize
+    requires { ⌜ SomeTrain (now s) n m h ⌝ }
+    ensures { λ r. ⌜ Partnered (now (s .entry)) n m h r ⌝ }
+{
+    let mut unmatched: usize = 0;
+    let mut q = m;
+    let mut symbol = symbol_of(s[q]);
+    while symbol >= APPLICATOR {
+        if symbol == APPLICATOR {
+            unmatched += 1;
+        } else {
+            if unmatched == 0 {
+                return q;
+            }
+            unmatched -= 1;
+        }
+        q = end_of(s, n, q + 1, h + 1);
+        symbol = symbol_of(s[q]);
+    }
+    n
+}
+
+// The couple at place p of the body in the first n letters.
+fn couple_at(s: &Letters, n: usize, p: usize) -> Couple
     requires { ⌜ InSomeBody (now s) n p ⌝ }
     ensures { λ r. ⌜ Searches (now (s .entry)) n p r ⌝ }
 {
     let v = s[p];
     if symbol_of(v) != APPLICATOR {
-        return no_pair(WRONG_SYMBOL);
+        return no_couple(WRONG_SYMBOL);
     }
     let h = height_of(v);
     let m = end_of(s, n, p + 1, h + 1);
-    if symbol_of(s[m]) != ABSTRACTOR {
-        return no_pair(NO_PARTNER);
+    let a = abstractor_after(s, n, m, h);
+    if a == n {
+        return no_couple(NO_PARTNER);
     }
-    let q = end_of(s, n, m + 1, h + 1);
+    let q = end_of(s, n, a + 1, h + 1);
     let e = end_of(s, n, q, h);
-    Pair {
+    Couple {
         reason: 0,
-        depth: narrow(depth_of(v)),
-        abstractor: m,
+        outer: narrow(depth_of(v)),
+        depth: narrow(depth_of(s[a])),
+        between: m,
+        abstractor: a,
         rest: q,
         end: e,
     }
 }
 
-// ---- The rest of a pair, without its abstractor.
+// ---- The rest of a couple, without its abstractor.
 // How often its variable is used, and the depth of its deepest use, 0 if there is none.
 struct Uses {
     count: u32,
@@ -163,17 +194,19 @@ fn measure(s: &Letters, from: usize, to: usize, c: u32) -> Uses
 }
 
 // ---- A removal.
-// Kind 2 at place p.
+// Kind 2 at place p. What stands between stays as it is.
 fn removal(s: &mut Letters, n: usize, p: usize) -> Form
     requires { ⌜ InSomeBody (now s) n p ⌝ }
     ensures { λ r. ⌜ ((w : List ℕ) (f : Record) → Steps w f (now (s .entry)) (now (s .exit)) n (record { kind = 2; place = p }) r) ⌝ }
 {
-    let x = pair_at(s, n, p);
+    let x = couple_at(s, n, p);
     let reason = x.reason;
     if reason > 0 {
         return Form::Refused(reason);
     }
     let c = x.depth;
+    let m = x.between;
+    let a = x.abstractor;
     let q = x.rest;
     let e = x.end;
     let u = measure(s, q, e, c);
@@ -181,9 +214,11 @@ fn removal(s: &mut Letters, n: usize, p: usize) -> Form
     if count > 0 {
         return Form::Refused(STILL_USED);
     }
+    move_left(s, m, a, m - p);
     lower_part(s, q, e, c);
-    move_left(s, q, n, q - p);
-    Form::Length(n - (q - p))
+    let by = q - (p + (a - m));
+    move_left(s, q, n, by);
+    Form::Length(n - by)
 }
 
 // ---- The whole substitution.
@@ -204,7 +239,7 @@ fn lift_to(s: &Letters, from: usize, to: usize, c: u32, k: u32, h: u32, out: &mu
 }
 
 // What becomes of the letter y of B goes to `out` from j on: K, lifted, for a use. The place after it.
-fn fill_letter(s: &Letters, p: usize, x: Pair, y: u32, out: &mut [u32], j: usize) -> usize
+fn fill_letter(s: &Letters, p: usize, x: Couple, y: u32, out: &mut [u32], j: usize) -> usize
     requires { ⌜ LetterFillable (now s) p x y (now out) j ⌝ }
     ensures { λ r. ⌜ LetterFills (now (s .entry)) p x y (now (out .entry)) (now (out .exit)) j r ⌝ }
 {
@@ -213,14 +248,15 @@ fn fill_letter(s: &Letters, p: usize, x: Pair, y: u32, out: &mut [u32], j: usize
         out[j] = lowered_letter(y, c);
         return j + 1;
     }
-    let m = x.abstractor;
-    let k = narrow(depth_of(y)) - 1 - c;
-    lift_to(s, p + 1, m, c, k, narrow(height_of(y)), out, j);
+    let m = x.between;
+    let o = x.outer;
+    let k = narrow(depth_of(y)) - 1 - o;
+    lift_to(s, p + 1, m, o, k, narrow(height_of(y)), out, j);
     j + (m - (p + 1))
 }
 
 // All of B goes to `out` so.
-fn fill(s: &Letters, p: usize, x: Pair, out: &mut [u32])
+fn fill(s: &Letters, p: usize, x: Couple, out: &mut [u32])
     requires { ⌜ Fillable (now s) p x (now out) ⌝ }
     ensures { λ r. ⌜ Fills (now (s .entry)) p x (now (out .entry)) (now (out .exit)) ⌝ }
 {
@@ -259,20 +295,25 @@ fn copy_start(out: &[u32], n: usize, s: &mut Letters, at: usize)
     }
 }
 
-// B so filled, which has `size` letters, takes the place of the pair at p and of B; `out` is written first, as K and B are read till the end.
-fn rewrite(s: &mut Letters, n: usize, p: usize, x: Pair, size: usize, out: &mut [u32])
+// What stands between, and B so filled, which has `size` letters, take the place of the couple at p and of B; `out` is written first, as K
+// and B are read till the end.
+fn rewrite(s: &mut Letters, n: usize, p: usize, x: Couple, size: usize, out: &mut [u32])
     requires { ⌜ Rewritable (now s) n p x size × (size ≤ length (now out)) ⌝ }
-    ensures { λ r. ⌜ Spliced (now (s .entry)) (now (s .exit)) n p (x .end) (filling (now (s .entry)) p x) ⌝ }
+    ensures { λ r. ⌜ Spliced (now (s .entry)) (now (s .exit)) n p (x .end) (remaining (now (s .entry)) x ++ filling (now (s .entry)) p x) ⌝ }
 {
+    let m = x.between;
+    let a = x.abstractor;
+    let at = p + (a - m);
     fill(s, p, x, out);
-    move_part(s, x.end, n, p + size);
-    copy_start(out, size, s, p);
+    move_left(s, m, a, m - p);
+    move_part(s, x.end, n, at + size);
+    copy_start(out, size, s, at);
 }
 
 // As `rewrite`: a small result needs no large array to be cleared.
-fn substitute(s: &mut Letters, n: usize, p: usize, x: Pair, size: usize)
+fn substitute(s: &mut Letters, n: usize, p: usize, x: Couple, size: usize)
     requires { ⌜ Rewritable (now s) n p x size ⌝ }
-    ensures { λ r. ⌜ Spliced (now (s .entry)) (now (s .exit)) n p (x .end) (filling (now (s .entry)) p x) ⌝ }
+    ensures { λ r. ⌜ Spliced (now (s .entry)) (now (s .exit)) n p (x .end) (remaining (now (s .entry)) x ++ filling (now (s .entry)) p x) ⌝ }
 {
     if size <= 256 {
         let mut small: [u32; 256] = [0; 256];
@@ -288,24 +329,26 @@ fn whole(s: &mut Letters, n: usize, p: usize, len: usize) -> Form
     requires { ⌜ InBodyAfter len (now s) n p ⌝ }
     ensures { λ r. ⌜ ((w : List ℕ) (f : Record) → f .len ≡ len → Steps w f (now (s .entry)) (now (s .exit)) n (record { kind = 3; place = p }) r) ⌝ }
 {
-    let x = pair_at(s, n, p);
+    let x = couple_at(s, n, p);
     let reason = x.reason;
     if reason > 0 {
         return Form::Refused(reason);
     }
+    let o = x.outer;
     let c = x.depth;
-    let m = x.abstractor;
+    let m = x.between;
+    let a = x.abstractor;
     let q = x.rest;
     let e = x.end;
     let u = measure(s, q, e, c);
     let count = u.count;
     let most = u.deepest;
-    let kept = n - (e - p);
+    let kept = n - (e - p) + (a - m);
     let size = e - q + wide(count) * (m - p - 2);
     if kept + size > LONGEST_TERM {
         return Form::Outgrown;
     }
-    if most + (deepest(s, p + 1, m) - c) > narrow(MOST_ABSTRACTORS - len) + 1 {
+    if most + (deepest(s, p + 1, m) - o) > narrow(MOST_ABSTRACTORS - len) + 1 {
         return Form::Outgrown;
     }
     substitute(s, n, p, x, size);

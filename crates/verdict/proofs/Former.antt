@@ -1,4 +1,4 @@
--- Without kind 3 every turn is that of the check with kinds 1 and 2.
+-- Without kind 3 every turn is that of the check with kinds 1 and 2, over either reach.
 -- Assumes nothing.
 use Prim.Native.Nat.{ℕ, zero, suc, _+_}
 use mathlib.Core.Path.{_≡_, refl, ap, _∙_}
@@ -9,12 +9,12 @@ use lib.ListN.{drop}
 use Rattle.calculus.specs.Terms.{Term}
 use Rattle.calculus.specs.Frames.{Frame}
 use Rattle.calculus.specs.Types.{type}
-use Rattle.calculus.specs.Steps.{Step, base, Reason, Outcome, reached, refused, step}
+use Rattle.calculus.specs.Steps.{Step, Reach, couples, base, full, Reason, Outcome, reached, refused, stepBy}
 use Rattle.calculus.specs.Rules.{Group, State, Next, asks, stops, onePassNext}
 use Rattle.calculus.specs.Whole.{NoWhole, none-left, one-more, NoWholes, no-groups, one-group}
-use Rattle.calculus.proofs.Whole.{same-step}
+use Rattle.calculus.proofs.Later.{same-step}
 use Rattle.verdict.specs.Bounds.{stateFits, bodyFits}
-use Rattle.verdict.specs.Verdict.{Item, state-at, same-at, placed, Ground, Progress, turned, completed, Run, OtherSide, right-next, left-reached, sideOf, Configuration, on-state, on-step, Status, at-turn, done, identical, formsMeet, sideFrom, withGroup, withType, toTurn, replaced, stepped, turnBy, turn, onward, runBy, run, states, steps, finishBy, asked, begun, start, checkTermBy, checkTerm}
+use Rattle.verdict.specs.Verdict.{Item, state-at, same-at, placed, Ground, Progress, turned, completed, Run, OtherSide, right-next, left-reached, sideOf, Configuration, on-state, on-step, Status, at-turn, done, identical, formsMeet, sideFrom, withGroup, withType, toTurn, replaced, stepped, turnBy, turn, onward, runBy, states, steps, finishBy, asked, begun, start, checkTermBy}
 use Rattle.verdict.specs.Claims.{afterTurns, FormerTurn, for-state, for-step, FormerRuns}
 
 abbrev ClearSide : OtherSide → Type 0
@@ -79,32 +79,32 @@ unfolding stepped
 clear-stepped R f g more (refused why) p h = clear-done
 clear-stepped R f g more (reached u) p h = clear-cond (bodyFits R u) (h u) clear-done
 
-clear-turn : {c : Configuration} {p : Progress} → Clear (at-turn c p) → Clear (turn c (turned 1 p))
+clear-turn : {c : Configuration} {p : Progress} (x : Reach) → Clear (at-turn c p) → Clear (turnBy (full x) c (turned 1 p))
 unfolding turnBy turned
-clear-turn (clear-state {place} {ws} {s} {rest} w) = clear-cond (stateFits s) (clear-replaced place ws (onePassNext s) rest _ w) clear-done
-clear-turn (clear-step {place} {n} {R} {o} {s} {ss} {t} {rest} c h k w) =
-    clear-stepped R _ _ _ (step R s t) _ (λ u. clear-side place R o (suc n) ss u rest (toTurn rest) _ c k (clear-items rest) w)
+clear-turn x (clear-state {place} {ws} {s} {rest} w) = clear-cond (stateFits s) (clear-replaced place ws (onePassNext s) rest _ w) clear-done
+clear-turn x (clear-step {place} {n} {R} {o} {s} {ss} {t} {rest} c h k w) =
+    clear-stepped R _ _ _ (stepBy (full x) R s t) _ (λ u. clear-side place R o (suc n) ss u rest (toTurn rest) _ c k (clear-items rest) w)
 
-same-turn : {c : Configuration} {p : Progress} → Clear (at-turn c p) → turnBy base c (turned 1 p) ≡ turn c (turned 1 p)
+same-turn : {c : Configuration} {p : Progress} (x : Reach) → Clear (at-turn c p) → turnBy (base x) c (turned 1 p) ≡ turnBy (full x) c (turned 1 p)
 unfolding turnBy
-same-turn (clear-state w) = refl
-same-turn (clear-step {R = R} {s = s} {t = t} c h k w) = rw (same-step R s t h) refl
+same-turn x (clear-state w) = refl
+same-turn x (clear-step {R = R} {s = s} {t = t} c h k w) = rw (same-step x R s t h) refl
 
-same-run : (n : ℕ) (a : Status) → Clear a → runBy base n a ≡ run n a
+same-run : (x : Reach) (n : ℕ) (a : Status) → Clear a → runBy (base x) n a ≡ runBy (full x) n a
 unfolding runBy onward
-same-run zero (at-turn c p) x = refl
-same-run zero (done r) x = refl
-same-run (suc n) (at-turn c p) x = ap (runBy base n) (same-turn x) ∙ same-run n (turn c (turned 1 p)) (clear-turn x)
-same-run (suc n) (done r) x = refl
+same-run x zero (at-turn c p) h = refl
+same-run x zero (done r) h = refl
+same-run x (suc n) (at-turn c p) h = ap (runBy (base x) n) (same-turn x h) ∙ same-run x n (turnBy (full x) c (turned 1 p)) (clear-turn x h)
+same-run x (suc n) (done r) h = refl
 
-as-before : (t : Term) (gs : List Group) → NoWholes gs → checkTermBy base t gs ≡ checkTerm t gs
+as-before : (x : Reach) (t : Term) (gs : List Group) → NoWholes gs → checkTermBy (base x) t gs ≡ checkTermBy (full x) t gs
 unfolding checkTermBy finishBy
-as-before t gs w = same-run (states (asked t) + steps gs) (toTurn (asked t) (begun gs)) (clear-items (asked t) (begun gs) w)
+as-before x t gs w = same-run x (states (asked t) + steps gs) (toTurn (asked t) (begun gs)) (clear-items (asked t) (begun gs) w)
 
 later-clear : (n : ℕ) (a : Status) → Clear a → Clear (afterTurns n a)
 unfolding afterTurns
 later-clear zero a x = x
-later-clear (suc n) (at-turn c p) x = later-clear n (turn c (turned 1 p)) (clear-turn x)
+later-clear (suc n) (at-turn c p) x = later-clear n (turn c (turned 1 p)) (clear-turn couples x)
 later-clear (suc n) (done r) x = clear-done
 
 former-turn : {c : Configuration} {p : Progress} → Clear (at-turn c p) → FormerTurn c

@@ -7,3 +7,4 @@ pub mod Laws
 pub mod Promises
 pub mod Table
 pub mod Former
+pub mod Later

@@ -12,7 +12,7 @@ use lib.ListN.{length, drop, getD}
 use Rattle.calculus.specs.Terms.{Term, tau, var, app, abs, size}
 use Rattle.calculus.specs.Frames.{Frame, ε}
 use Rattle.calculus.specs.Types.{type}
-use Rattle.calculus.specs.Steps.{Step, Reading, full, Reason, Outcome, reached, refused, stepBy}
+use Rattle.calculus.specs.Steps.{Step, Reading, latest, Reason, Outcome, reached, refused, stepBy}
 use Rattle.calculus.specs.Rules.{Group, State, own, copied, compare, Question, holds, same, Stop, waiting, waiting-copied, unbound, no-rule, Next, asks, stops, onePassNext}
 use Rattle.calculus.specs.Walks.{statesOf}
 use Rattle.code.specs.Refusals as refusals
@@ -167,7 +167,7 @@ turnBy x (on-step place R o n s ss t rest) p =
     stepped R (step-refused place (sideOf o) n) (step-outgrown place (sideOf o) n) (λ u. sideFrom place R o (suc n) ss u rest (toTurn rest)) (stepBy x R s t) p
 
 abbrev pub turn : Configuration → Progress → Status
-turn c p = turnBy full c p
+turn c p = turnBy latest c p
 
 -- THE CHECK: turn after turn, each counted, to the end
 unfoldable pub onward : Reading → (Status → Run) → Status → Run
@@ -180,7 +180,7 @@ runBy x zero (done r) = r
 runBy x (suc n) a = onward x (runBy x n) a
 
 abbrev pub run : ℕ → Status → Run
-run n a = runBy full n a
+run n a = runBy latest n a
 
 -- No more turns than this: the states that the questions lead to, and the steps of the groups.
 unfoldable pub states : List Item → ℕ
@@ -197,7 +197,7 @@ unfoldable pub finishBy : Reading → List Item → Progress → Run
 finishBy x items p = runBy x (states items + steps (p .left)) (toTurn items p)
 
 abbrev pub finish : List Item → Progress → Run
-finish items p = finishBy full items p
+finish items p = finishBy latest items p
 
 -- The check of a term with the groups of its file: what is asked, how it begins, and what it comes to.
 abbrev pub asked : Term → List Item
@@ -213,7 +213,7 @@ unfoldable pub checkTermBy : Reading → Term → List Group → Run
 checkTermBy x t gs = finishBy x (asked t) (begun gs)
 
 abbrev pub checkTerm : Term → List Group → Run
-checkTerm t gs = checkTermBy full t gs
+checkTerm t gs = checkTermBy latest t gs
 
 -- What the answer shows of a ground: its number and its place.
 unfoldable pub number : Ground → ℕ

@@ -5,7 +5,7 @@ use mathlib.Core.List.{map}
 use Rattle.calculus.specs.Terms.{size, lift, liftIndex}
 use Rattle.calculus.specs.Frames.{domain, depth, entryAt}
 use Rattle.calculus.specs.Types.{degree, degreeIn, degrees, nth, type, typeOfVar}
-use Rattle.calculus.specs.Steps.{stepBy, step, stepOf, stepAt, stepHere, kindIn, reduceVar, lowerVar, both, lower, unused, removePair, substituteVar, substitute, substitutePair, mapOutcome, entryOf}
+use Rattle.calculus.specs.Steps.{reachOf, stepBy, step, stepOf, stepAt, stepHere, kindIn, reduceVar, lowerVar, both, lower, unused, substituteVar, substitute, remove, fill, ifFar, atPartner, mapOutcome, entryOf, unmatched}
 use Rattle.calculus.specs.Rules.{liftAll, typed, onePassNext}
 use Rattle.calculus.specs.Walks.{copiedStates, ownStates, frameStates, statesOf}
 use Rattle.code.specs.Code.{encode}
@@ -19,7 +19,7 @@ use Rattle.printing.specs.Page.{printAnswer}
 use Rattle.worked_examples.specs.Table.{answerTo, times, table, Answered}
 
 answered : map (λ e. answerTo (e .call)) table ≡ map (λ e. e .gives) table
-unfolding termAnswer checkFileBy typeAnswer stepAnswer printAnswer times checkTermBy finishBy runBy onward turnBy stepped replaced toTurn withType withGroup sideFrom sideOf formsMeet placed last groundOf turned completed identical copiedStates ownStates frameStates statesOf states steps number placeOf typed onePassNext stateFits bodyFits stateSize stateScope frameSize frameScope waitingSize waitingScope encode scope size lift liftIndex domain entryAt depth degree degreeIn degrees nth type typeOfVar stepBy stepOf stepAt stepHere kindIn reduceVar lowerVar both lower unused removePair substituteVar substitute substitutePair mapOutcome entryOf liftAll
+unfolding termAnswer checkFileBy typeAnswer stepAnswer printAnswer times checkTermBy finishBy runBy onward turnBy stepped replaced toTurn withType withGroup sideFrom sideOf formsMeet placed last groundOf turned completed identical copiedStates ownStates frameStates statesOf states steps number placeOf typed onePassNext stateFits bodyFits stateSize stateScope frameSize frameScope waitingSize waitingScope encode scope size lift liftIndex domain entryAt depth degree degreeIn degrees nth type typeOfVar reachOf stepBy stepOf stepAt stepHere kindIn reduceVar lowerVar both lower unused substituteVar substitute remove fill ifFar atPartner mapOutcome entryOf unmatched liftAll
 answered = refl
 
 pub one-fact : Answered

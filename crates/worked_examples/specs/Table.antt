@@ -1,19 +1,21 @@
 -- Document 01, 'Examples to carry in the proofs': E1 with its degree and its type, E2 to E9, and example 11; some more of the type
--- and the step, with the buffer that is left: aa is a byte that was there before; and the readings of requests (a) and (b).
+-- and the step, with the buffer that is left: aa is a byte that was there before; and the readings of requests (a), (b) and (d).
 -- Assumes nothing.
 use Prim.Native.Nat.{ℕ, zero, suc}
 use mathlib.Core.Path.{_≡_}
 use mathlib.Core.List.{List, [], _∷_, _++_, map}
 use Rattle.examine.specs.Inspect.{termAnswer}
 use Rattle.examine.specs.declared.TermAnswer.{TermAnswer}
-use Rattle.calculus.specs.Steps.{base}
+use Rattle.calculus.specs.Steps.{Reading, pairs, base, full}
 use Rattle.files.specs.Check.{CheckAnswer, checkFileBy, checkFile}
 use Rattle.calls.specs.Answers.{Written, nothing, answer, typeAnswer, stepAnswer}
 use Rattle.printing.specs.Page.{printAnswer}
 
--- A call with what it is given: a term; a file; a file, where kind 3 is unknown as before request (a); a term and a buffer; a term, a step's kind and place, and a buffer.
+-- A call with what it is given: a term; a file; a file, under a reading before a request; a term and a buffer; a term, a step's kind and
+-- place, and a buffer.
 pub data Call : Type 0 where
-  examine-term check-file check-former : List ℕ → Call
+  examine-term check-file : List ℕ → Call
+  check-by : Reading → List ℕ → Call
   write-type print-term : List ℕ → List ℕ → Call
   apply-step : List ℕ → (kind place : ℕ) → List ℕ → Call
 
@@ -26,7 +28,7 @@ pub data Answer : Type 0 where
 abbrev pub answerTo : Call → Answer
 answerTo (examine-term s) = of-term (termAnswer s)
 answerTo (check-file s) = of-file (checkFile s)
-answerTo (check-former s) = of-file (checkFileBy base s)
+answerTo (check-by y s) = of-file (checkFileBy y s)
 answerTo (write-type s out) = of-buffer (typeAnswer s out)
 answerTo (print-term s out) = of-buffer (printAnswer s out)
 answerTo (apply-step s kind place out) = of-buffer (stepAnswer s (record { kind = kind; place = place }) out)
@@ -41,8 +43,8 @@ examineGives s n p d = record { call = examine-term s; gives = of-term (record {
 abbrev pub checkGives : List ℕ → (number place comparisons degree : ℕ) → Example
 checkGives s n p c d = record { call = check-file s; gives = of-file (record { number = n; place = p; comparisons = c; degree = d }) }
 
-abbrev pub formerGives : List ℕ → (number place comparisons degree : ℕ) → Example
-formerGives s n p c d = record { call = check-former s; gives = of-file (record { number = n; place = p; comparisons = c; degree = d }) }
+abbrev pub formerGives : Reading → List ℕ → (number place comparisons degree : ℕ) → Example
+formerGives y s n p c d = record { call = check-by y s; gives = of-file (record { number = n; place = p; comparisons = c; degree = d }) }
 
 abbrev pub typeGives : (s out : List ℕ) → Written → Example
 typeGives s out w = record { call = write-type s out; gives = of-buffer w }
@@ -57,12 +59,19 @@ stepGives s k p out w = record { call = apply-step s k p out; gives = of-buffer 
 abbrev pub file : ℕ → List ℕ → List ℕ → List ℕ
 file n t gs = 0x01 ∷ 0x00 ∷ n ∷ (t ++ gs)
 
--- An empty group, and one with a right step of some kind at place 0.
+-- A group of left steps and right steps, of so many bytes, below 256; an empty one; and one with a right step of some kind at place 0.
+abbrev pub group-of : ℕ → List ℕ → ℕ → List ℕ → List ℕ
+group-of n left m right = 0x02 ∷ 0x00 ∷ n ∷ (left ++ 0x03 ∷ 0x00 ∷ m ∷ right)
+
 abbrev pub group : List ℕ
-group = 0x02 ∷ 0x00 ∷ 0x00 ∷ 0x03 ∷ 0x00 ∷ 0x00 ∷ []
+group = group-of 0 [] 0 []
 
 abbrev pub right-step : ℕ → List ℕ
-right-step kind = 0x02 ∷ 0x00 ∷ 0x00 ∷ 0x03 ∷ 0x00 ∷ 0x03 ∷ kind ∷ 0x00 ∷ 0x00 ∷ []
+right-step kind = group-of 0 [] 3 (kind ∷ 0x00 ∷ 0x00 ∷ [])
+
+-- Two steps of some kind at place 0.
+abbrev pub twice : ℕ → List ℕ
+twice kind = kind ∷ 0x00 ∷ 0x00 ∷ kind ∷ 0x00 ∷ 0x00 ∷ []
 
 -- n times s; and n times ff 00, and then s.
 unfoldable pub times : ℕ → List ℕ → List ℕ
@@ -103,6 +112,37 @@ defined k s = 0xfe ∷ (k ++ 0xff ∷ 0x00 ∷ s)
 abbrev pub inner : List ℕ
 inner = 0xff ∷ 0x00 ∷ 0xff ∷ 0x01 ∷ 0xfe ∷ 0x01 ∷ 0xff ∷ 0xfe ∷ 0x02 ∷ 0xff ∷ 0x00 ∷ 0x01 ∷ 0x01 ∷ []
 
+-- request (d): n times ⟨τ⟩, n times [τ], and then k: the first applicator and the last abstractor are a couple; so are those of
+-- [τ]⟨1⟩⟨τ⟩[τ][τ]1, and the first applicator and the second [τ] of [τ]⟨1⟩⟨1⟩[1][τ][τ]4
+abbrev pub nested : ℕ → ℕ → List ℕ
+nested n k = times n (0xfe ∷ 0x00 ∷ []) ++ abstractors n (k ∷ [])
+
+abbrev pub around : List ℕ
+around = 0xff ∷ 0x00 ∷ 0xfe ∷ 0x01 ∷ 0xfe ∷ 0x00 ∷ 0xff ∷ 0x00 ∷ 0xff ∷ 0x00 ∷ 0x01 ∷ []
+
+abbrev pub before-more : List ℕ
+before-more = 0xff ∷ 0x00 ∷ 0xfe ∷ 0x01 ∷ 0xfe ∷ 0x01 ∷ 0xff ∷ 0x01 ∷ 0xff ∷ 0x00 ∷ 0xff ∷ 0x00 ∷ 0x04 ∷ []
+
+-- ⟨τ⟩⟨τ⟩[τ][1]τ: the outer couple's U uses the inner one's variable
+abbrev pub used-between : List ℕ
+used-between = 0xfe ∷ 0x00 ∷ 0xfe ∷ 0x00 ∷ 0xff ∷ 0x00 ∷ 0xff ∷ 0x01 ∷ 0x00 ∷ []
+
+-- [τ][[τ]1]⟨2⟩⟨1⟩[[τ]1]1: with the type of the second K the applicator ⟨2⟩ waits
+abbrev pub waiting : List ℕ
+waiting = 0xff ∷ 0x00 ∷ 0xff ∷ 0xff ∷ 0x00 ∷ 0x01 ∷ 0xfe ∷ 0x02 ∷ 0xfe ∷ 0x01 ∷ 0xff ∷ 0xff ∷ 0x00 ∷ 0x01 ∷ 0x01 ∷ []
+
+-- [τ][1]⟨2⟩⟨2⟩[τ][τ]⟨3⟩[1]1: the frame has a pair of wagons that are no neighbours
+abbrev pub far-in-frame : List ℕ
+far-in-frame = 0xff ∷ 0x00 ∷ 0xff ∷ 0x01 ∷ 0xfe ∷ 0x02 ∷ 0xfe ∷ 0x02 ∷ 0xff ∷ 0x00 ∷ 0xff ∷ 0x00 ∷ 0xfe ∷ 0x03 ∷ 0xff ∷ 0x01 ∷ 0x01 ∷ []
+
+-- [τ][1][[2][3]τ]⟨⟨2⟩⟨2⟩1⟩[τ]1: the type of K is ⟨2⟩⟨2⟩[3][4]τ, two wagons of K and two of the U of 1
+abbrev pub typed-train : List ℕ
+typed-train = 0xff ∷ 0x00 ∷ 0xff ∷ 0x01 ∷ 0xff ∷ 0xff ∷ 0x02 ∷ 0xff ∷ 0x03 ∷ 0x00 ∷ 0xfe ∷ 0xfe ∷ 0x02 ∷ 0xfe ∷ 0x02 ∷ 0x01 ∷ 0xff ∷ 0x00 ∷ 0x01 ∷ []
+
+-- [τ][1]⟨1⟩[⟨2⟩⟨2⟩[τ][τ]1]τ: the outer U is the type of its K once both its couples are gone
+abbrev pub inner-couples : List ℕ
+inner-couples = 0xff ∷ 0x00 ∷ 0xff ∷ 0x01 ∷ 0xfe ∷ 0x01 ∷ 0xff ∷ 0xfe ∷ 0x02 ∷ 0xfe ∷ 0x02 ∷ 0xff ∷ 0x00 ∷ 0xff ∷ 0x00 ∷ 0x01 ∷ 0x00 ∷ []
+
 abbrev pub table : List Example
 table =
     -- E1: its degree, and its type
@@ -123,7 +163,7 @@ table =
     ∷ checkGives (0x01 ∷ 0x01 ∷ 0xfd ∷ outgrowing) 11 508 0 2
     ∷ typeGives outgrowing [] (answer 11 0 0 [])
     -- the examples of 10 and 12
-    ∷ checkGives (file 9 e2 (0x02 ∷ 0x00 ∷ 0x03 ∷ 0x09 ∷ 0x00 ∷ 0x00 ∷ 0x03 ∷ 0x00 ∷ 0x00 ∷ [])) 10 4 0 3
+    ∷ checkGives (file 9 e2 (group-of 3 (0x09 ∷ 0x00 ∷ 0x00 ∷ []) 0 [])) 10 4 0 3
     ∷ checkGives (file 9 (0xff ∷ 0x00 ∷ 0xff ∷ 0x01 ∷ 0xfe ∷ 0x01 ∷ 0xff ∷ 0x00 ∷ 0x01 ∷ []) group) 12 4 0 2
     -- the example of 14; no type; the example of 3
     ∷ typeGives (0xff ∷ 0x00 ∷ 0x01 ∷ []) (0xaa ∷ 0xaa ∷ []) (answer 14 0 0 (0xaa ∷ 0xaa ∷ []))
@@ -154,7 +194,7 @@ table =
     ∷ stepGives (paired 0x01) 3 2 (0xaa ∷ 0xaa ∷ []) (answer 14 0 0 (0xaa ∷ 0xaa ∷ []))
     -- in a file: accepted, where it was 10 before
     ∷ checkGives (file 13 inner (group ++ right-step 0x03)) 0 0 2 3
-    ∷ formerGives (file 13 inner (group ++ right-step 0x03)) 10 4 1 3
+    ∷ formerGives (base pairs) (file 13 inner (group ++ right-step 0x03)) 10 4 1 3
     -- request (b), B1: three blanks, t, 68 blanks and a line feed, the rest of the buffer as it was; a byte too few
     ∷ printGives (0x00 ∷ []) (times 100 (0xaa ∷ [])) (answer 0 0 73 (times 3 (0x20 ∷ []) ++ 0x74 ∷ times 68 (0x20 ∷ []) ++ 0x0a ∷ times 27 (0xaa ∷ [])))
     ∷ printGives (0x00 ∷ []) (times 73 (0xaa ∷ [])) (answer 0 0 73 (times 3 (0x20 ∷ []) ++ 0x74 ∷ times 68 (0x20 ∷ []) ++ 0x0a ∷ []))
@@ -165,6 +205,30 @@ table =
     ∷ printGives (abstractors 254 (0x00 ∷ [])) [] (answer 6 506 0 [])
     -- and there is no 11: 253 abstractors and an index take 29 lines, 2,117 bytes
     ∷ printGives (abstractors 253 (0xfd ∷ [])) [] (answer 14 0 0 [])
+    -- request (d), D1: a local step at the variable of a couple, with one couple between, and with one in another
+    ∷ stepGives (nested 2 0x01) 1 8 (times 10 (0xaa ∷ [])) (answer 0 0 9 (nested 2 0x00 ++ 0xaa ∷ []))
+    ∷ stepGives (nested 3 0x01) 1 12 (times 14 (0xaa ∷ [])) (answer 0 0 13 (nested 3 0x00 ++ 0xaa ∷ []))
+    -- D2: it lifts K past both abstractors
+    ∷ stepGives around 1 10 (times 11 (0xaa ∷ [])) (answer 0 0 11 (0xff ∷ 0x00 ∷ 0xfe ∷ 0x01 ∷ 0xfe ∷ 0x00 ∷ 0xff ∷ 0x00 ∷ 0xff ∷ 0x00 ∷ 0x03 ∷ []))
+    -- D3: what stands between stays, and what follows falls by 1; and so for kind 3, whose K is lifted past the abstractor between
+    ∷ stepGives (nested 2 0x02) 2 0 (times 6 (0xaa ∷ [])) (answer 0 0 5 (0xfe ∷ 0x00 ∷ 0xff ∷ 0x00 ∷ 0x01 ∷ 0xaa ∷ []))
+    ∷ stepGives before-more 2 2 (times 10 (0xaa ∷ [])) (answer 0 0 9 (0xff ∷ 0x00 ∷ 0xfe ∷ 0x01 ∷ 0xff ∷ 0x01 ∷ 0xff ∷ 0x00 ∷ 0x03 ∷ 0xaa ∷ []))
+    ∷ stepGives around 3 2 (times 8 (0xaa ∷ [])) (answer 0 0 7 (0xff ∷ 0x00 ∷ 0xfe ∷ 0x00 ∷ 0xff ∷ 0x00 ∷ 0x02 ∷ 0xaa ∷ []))
+    -- D4: in the body only, so that ⟨2⟩ is no partner; the frame's pairs are those that they were
+    ∷ checkGives (file 15 waiting (group-of 3 (0x01 ∷ 0x00 ∷ 0x02 ∷ []) 3 (0x01 ∷ 0x00 ∷ 0x02 ∷ []) ++ group)) 10 8 0 3
+    ∷ checkGives (file 17 far-in-frame (group ++ group ++ right-step 0x01)) 0 0 3 3
+    ∷ formerGives (full pairs) (file 17 far-in-frame (group ++ group ++ right-step 0x01)) 0 0 3 3
+    -- D5: nothing left to match; a variable used between; kind 3 at it, and a removal around it
+    ∷ stepGives (0xfe ∷ 0x00 ∷ 0xfe ∷ 0x00 ∷ 0xff ∷ 0x00 ∷ 0x00 ∷ []) 2 0 (0xaa ∷ []) (answer 10 0 0 (0xaa ∷ []))
+    ∷ stepGives used-between 2 2 (0xaa ∷ []) (answer 10 0 0 (0xaa ∷ []))
+    ∷ stepGives used-between 3 2 (times 6 (0xaa ∷ [])) (answer 0 0 5 (0xfe ∷ 0x00 ∷ 0xff ∷ 0x00 ∷ 0x00 ∷ 0xaa ∷ []))
+    ∷ stepGives used-between 2 0 (times 6 (0xaa ∷ [])) (answer 0 0 5 (0xfe ∷ 0x00 ∷ 0xff ∷ 0x00 ∷ 0x00 ∷ 0xaa ∷ []))
+    -- D6: the first wagon of K matches the last of the copied U; two left removals at 0
+    ∷ checkGives (file 19 typed-train (group ++ group ++ group-of 6 (twice 0x02) 0 [])) 0 0 3 2
+    ∷ formerGives (full pairs) (file 19 typed-train (group ++ group ++ group-of 6 (twice 0x02) 0 [])) 10 10 2 2
+    -- D7: accepted, where it was 10 before
+    ∷ checkGives (file 17 inner-couples (group ++ group ++ group-of 0 [] 6 (twice 0x03))) 0 0 3 1
+    ∷ formerGives (full pairs) (file 17 inner-couples (group ++ group ++ group-of 0 [] 6 (twice 0x03))) 10 4 2 1
     ∷ []
 
 -- One fact: each call gives its answer.

@@ -1,6 +1,7 @@
 //! Short forms for the tests.
 #![allow(dead_code)]
 
+use reference::frame::apply_to_pairs;
 use reference::*;
 
 /// Bytes from hexadecimal; blanks are skipped.
@@ -27,6 +28,12 @@ pub const EMPTY_GROUP: &str = "02 00 00 03 00 00";
 /// Number, place, comparisons, degree.
 pub fn checked(file: &[u8]) -> (u8, usize, usize, u64) {
     let a = check(file);
+    (a.number, a.place, a.comparisons, a.degree)
+}
+
+/// The same with steps that take pairs only.
+pub fn checked_with_pairs(file: &[u8]) -> (u8, usize, usize, u64) {
+    let a = check_by(apply_to_pairs, file);
     (a.number, a.place, a.comparisons, a.degree)
 }
 
@@ -62,6 +69,18 @@ pub fn typed(term: &[u8], length: usize) -> (TypeAnswer, Vec<u8>) {
 pub fn stepped(term: &[u8], kind: u8, place: u16, length: usize) -> ((u8, usize, usize), Vec<u8>) {
     let mut buffer = vec![0xaa; length];
     let a = apply_step(term, kind, place, &mut buffer);
+    ((a.number, a.place, a.len), buffer)
+}
+
+/// The same with steps that take pairs only.
+pub fn stepped_with_pairs(
+    term: &[u8],
+    kind: u8,
+    place: u16,
+    length: usize,
+) -> ((u8, usize, usize), Vec<u8>) {
+    let mut buffer = vec![0xaa; length];
+    let a = apply_step_by(apply_to_pairs, term, kind, place, &mut buffer);
     ((a.number, a.place, a.len), buffer)
 }
 

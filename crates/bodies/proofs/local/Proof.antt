@@ -1,7 +1,7 @@
 -- `bodies::local` meets its contract: what the variable means (Meaning.antt), put in its place.
 -- Assumes nothing.
 use native.Mathlib.Omega.{arith}
-use Rattle.bodies.proofs.Meaning.{place-inside, no-variable, puttable, local-put, local-alone, some-bound, alone-inside, partner-inside, looked-up, alone-outside, partner-outside, domain-positive}
+use Rattle.bodies.proofs.Meaning.{place-inside, no-variable, puttable, local-put, local-alone, some-bound, alone-inside, applicator-there, partner-inside, looked-up, alone-outside, partner-outside, domain-positive}
 use borrow.Author.Needs.{needs}
 use Rattle.bodies.proofs.local.Statement.{statement}
 use Rattle.bodies.proofs.local.Tie as tie
@@ -29,11 +29,23 @@ find-requires c κs = some-bound (c .before .before .depth-of .ensures .0) (c .b
 returns-3 : tie.Need-returns-3
 returns-3 c = local-alone (c .before .before .before .before .before .before .before .before .before .pre) (c .before .before .before .before .before .before .before .symbol-of .ensures .0) (omega (arith, c .before .before .before .before .before .before .if1 .left)) (omega (arith, c .before .before .before .before .before .if2 .left)) (alone-inside (c .before .before .before .before .depth-of .ensures .0) (c .before .before .before .if3 .taken) (c .before .find .ensures) (c .if4 .taken))
 
+sub-depth-of : tie.Need-sub-depth-of
+sub-depth-of c = omega (arith, (applicator-there (c .before .before .before .before .depth-of .ensures .0) (c .before .before .before .if3 .taken) (c .before .find .ensures) (c .if4 .left) (c .before .before .before .before .before .before .before .before .before .pre) (c .before .before .before .before .before .before .before .symbol-of .ensures .0) (omega (arith, c .before .before .before .before .before .before .if1 .left)) (omega (arith, c .before .before .before .before .before .if2 .left))))
+
+mul-depth-of : tie.Need-mul-depth-of
+mul-depth-of c = omega (arith, (applicator-there (c .before .before .before .before .depth-of .ensures .0) (c .before .before .before .if3 .taken) (c .before .find .ensures) (c .if4 .left) (c .before .before .before .before .before .before .before .before .before .pre) (c .before .before .before .before .before .before .before .symbol-of .ensures .0) (omega (arith, c .before .before .before .before .before .before .if1 .left)) (omega (arith, c .before .before .before .before .before .if2 .left))), place-inside (c .before .before .before .before .before .before .before .before .before .pre))
+
+element-copy-out-depth-of : tie.Need-element-copy-out-depth-of
+element-copy-out-depth-of c = omega (arith, (applicator-there (c .before .before .before .before .depth-of .ensures .0) (c .before .before .before .if3 .taken) (c .before .find .ensures) (c .if4 .left) (c .before .before .before .before .before .before .before .before .before .pre) (c .before .before .before .before .before .before .before .symbol-of .ensures .0) (omega (arith, c .before .before .before .before .before .before .if1 .left)) (omega (arith, c .before .before .before .before .before .if2 .left))), place-inside (c .before .before .before .before .before .before .before .before .before .pre))
+
+sub-t29 : tie.Need-sub-t29
+sub-t29 c = omega (arith, (applicator-there (c .before .before .before .before .before .before .depth-of .ensures .0) (c .before .before .before .before .before .if3 .taken) (c .before .before .before .find .ensures) (c .before .before .if4 .left) (c .before .before .before .before .before .before .before .before .before .before .before .pre) (c .before .before .before .before .before .before .before .before .before .symbol-of .ensures .0) (omega (arith, c .before .before .before .before .before .before .before .before .if1 .left)) (omega (arith, c .before .before .before .before .before .before .before .if2 .left))), c .depth-of2 .ensures .0)
+
 put-requires : tie.Need-put-requires
-put-requires c κs = puttable (c .before .before .before .before .before .before .before .before .before .before .pre) (c .before .before .before .before .before .before .before .before .symbol-of .ensures .0) (omega (arith, c .before .before .before .before .before .before .before .if1 .left)) (omega (arith, c .before .before .before .before .before .before .if2 .left)) (partner-inside (c .before .before .before .before .before .depth-of .ensures .0) (c .before .before .before .before .if3 .taken) (c .before .before .find .ensures) (c .before .if4 .left))
+put-requires c κs = puttable (c .before .before .before .before .before .before .before .before .before .before .before .before .pre) (c .before .before .before .before .before .before .before .before .before .before .symbol-of .ensures .0) (omega (arith, c .before .before .before .before .before .before .before .before .before .if1 .left)) (omega (arith, c .before .before .before .before .before .before .before .before .if2 .left)) (partner-inside (c .before .before .before .before .before .before .before .depth-of .ensures .0) (c .before .before .before .before .before .before .if3 .taken) (c .before .before .before .before .find .ensures) (c .before .before .before .if4 .left) (c .before .depth-of2 .ensures .0))
 
 returns-4 : tie.Need-returns-4
-returns-4 c = local-put (c .before .before .before .before .before .before .before .before .before .before .before .pre) (c .before .before .before .before .before .before .before .before .before .symbol-of .ensures .0) (omega (arith, c .before .before .before .before .before .before .before .before .if1 .left)) (omega (arith, c .before .before .before .before .before .before .before .if2 .left)) (partner-inside (c .before .before .before .before .before .before .depth-of .ensures .0) (c .before .before .before .before .before .if3 .taken) (c .before .before .before .find .ensures) (c .before .before .if4 .left)) (c .put .ensures)
+returns-4 c = local-put (c .before .before .before .before .before .before .before .before .before .before .before .before .before .pre) (c .before .before .before .before .before .before .before .before .before .before .before .symbol-of .ensures .0) (omega (arith, c .before .before .before .before .before .before .before .before .before .before .if1 .left)) (omega (arith, c .before .before .before .before .before .before .before .before .before .if2 .left)) (partner-inside (c .before .before .before .before .before .before .before .before .depth-of .ensures .0) (c .before .before .before .before .before .before .before .if3 .taken) (c .before .before .before .before .before .find .ensures) (c .before .before .before .before .if4 .left) (c .before .before .depth-of2 .ensures .0)) (c .put .ensures)
 
 entry-at-requires : tie.Need-entry-at-requires
 entry-at-requires c κs = looked-up (c .before .depth-of .ensures .0) (c .if3 .left) (c .before .before .before .before .before .before .pre) (c .before .before .before .before .symbol-of .ensures .0) (omega (arith, c .before .before .if2 .left))
@@ -62,6 +74,11 @@ local-spec =
     (λ c κs. search needs)
     find-requires
     returns-3
+    sub-depth-of
+    mul-depth-of
+    element-copy-out-depth-of
+    (λ c κs. search needs)
+    sub-t29
     put-requires
     returns-4
     (λ c. search needs)

@@ -10,7 +10,6 @@ use Rattle.bodies.proofs.move_right.Reads as move-right-reads
 use Rattle.bodies.proofs.write_source.Reads as write-source-reads
 use Rattle.letters.proofs.depth_of.Reads as depth-of-reads
 use Rattle.letters.proofs.height_of.Reads as height-of-reads
-use Rattle.letters.proofs.symbol_of.Reads as symbol-of-reads
 
 sub-size : tie.Need-sub-size
 sub-size c = omega (arith, put-bounds (c .before .pre))
@@ -43,13 +42,13 @@ move-right-requires : tie.Need-move-right-requires
 move-right-requires c κs = let b = put-bounds (c .before .before .before .before .before .pre) in (omega arith, omega (arith, c .before .before .before .if1 .left), b .4)
 
 write-source-requires : tie.Need-write-source-requires
-write-source-requires c κs = put-sourced (c .before .before .before .before .before .before .before .before .before .pre) (c .before .before .before .before .before .depth-of .ensures .0) (c .before .symbol-of .ensures .0) (c .height-of .ensures .0) (c .before .before .before .before .before .before .before .if1 .left) (c .before .before .before .move-right .ensures)
+write-source-requires c κs = put-sourced (c .before .before .before .before .before .before .before .before .pre) (c .before .before .before .before .depth-of .ensures .0) (c .height-of .ensures .0) (c .before .before .before .before .before .before .if1 .left) (c .before .before .move-right .ensures)
 
 returns-2 : tie.Need-returns-2
-returns-2 c = put-deep (c .before .before .before .before .before .before .before .before .before .before .before .pre) (c .before .before .before .before .before .before .before .depth-of .ensures .0) (c .before .before .before .symbol-of .ensures .0) (c .before .before .height-of .ensures .0) (c .before .before .before .before .before .before .before .before .before .if1 .left) (c .before .before .before .before .before .move-right .ensures) (c .before .write-source .ensures) (not-true _ (c .if2 .taken))
+returns-2 c = put-deep (c .before .before .before .before .before .before .before .before .before .before .pre) (c .before .before .before .before .before .before .depth-of .ensures .0) (c .before .before .height-of .ensures .0) (c .before .before .before .before .before .before .before .before .if1 .left) (c .before .before .before .before .move-right .ensures) (c .before .write-source .ensures) (not-true _ (c .if2 .taken))
 
 returns-3 : tie.Need-returns-3
-returns-3 c = put-done (c .before .before .before .before .before .before .before .before .before .before .before .pre) (c .before .before .before .before .before .before .before .depth-of .ensures .0) (c .before .before .before .symbol-of .ensures .0) (c .before .before .height-of .ensures .0) (c .before .before .before .before .before .before .before .before .before .if1 .left) (c .before .before .before .before .before .move-right .ensures) (c .before .write-source .ensures) (not-false _ (c .if2 .left))
+returns-3 c = put-done (c .before .before .before .before .before .before .before .before .before .before .pre) (c .before .before .before .before .before .before .depth-of .ensures .0) (c .before .before .height-of .ensures .0) (c .before .before .before .before .before .before .before .before .if1 .left) (c .before .before .before .before .move-right .ensures) (c .before .write-source .ensures) (not-false _ (c .if2 .left))
 
 pub put-spec : {M : Type 1} → statement M
 put-spec =
@@ -67,7 +66,6 @@ put-spec =
     add-move-right
     sub-move-right
     move-right-requires
-    (λ c κs. search needs)
     (λ c κs. search needs)
     write-source-requires
     returns-2

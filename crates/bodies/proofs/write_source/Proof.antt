@@ -25,6 +25,9 @@ deepest-requires c κs = source-some (c .before .before .before .pre) (c .before
 returns-2 : tie.Need-returns-2
 returns-2 c = source-deep (c .before .before .before .before .before .before .pre) (c .before .before .before .before .before .if1 .left) (c .before .before .deepest .ensures) (omega (arith, c .before .before .before .before .narrow .ensures, c .before .narrow2 .ensures, c .if2 .taken))
 
+narrow-requires-3 : tie.Need-narrow-requires-3
+narrow-requires-3 c κs = omega (arith, source-lower (c .before .before .before .before .before .before .before .pre) (c .before .before .before .before .before .before .if1 .left))
+
 narrow-requires-4 : tie.Need-narrow-requires-4
 narrow-requires-4 c κs = omega (arith, source-lower (c .before .before .before .before .before .before .before .before .pre) (c .before .before .before .before .before .before .before .if1 .left))
 
@@ -46,7 +49,7 @@ write-source-spec =
     (λ c κs. search needs)
     (λ c. search needs)
     returns-2
-    (λ c κs. search needs)
+    narrow-requires-3
     narrow-requires-4
     lift-part-requires
     returns-3)

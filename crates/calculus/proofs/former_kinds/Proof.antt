@@ -2,7 +2,7 @@
 -- Assumes nothing.
 use Rattle.calculus.proofs.former_kinds.Statement.{statement}
 use Rattle.calculus.proofs.former_kinds.Tie as tie
-use Rattle.calculus.proofs.Whole.{readings}
+use Rattle.calculus.proofs.Later.{readings}
 
 returns : tie.Need-returns
 returns c = readings

@@ -2,7 +2,8 @@
 -- Assumes nothing.
 use Prim.Native.Nat.{_-_}
 use native.Mathlib.Omega.{arith}
-use Rattle.steps.proofs.Writing.{places, Filling, filling-start, letter-fillable, filling-next, filling-end}
+use Rattle.steps.proofs.Couples.{places}
+use Rattle.steps.proofs.Writing.{Filling, filling-start, letter-fillable, filling-next, filling-end}
 use borrow.Author.Needs.{needs}
 use Rattle.steps.proofs.fill.Statement.{statement}
 use Rattle.steps.proofs.fill.Tie as tie
@@ -17,10 +18,10 @@ loop-holds : tie.Need-loop-holds Inv-loop μ-loop
 loop-holds c = filling-start
 
 mul-fill-letter : tie.Need-mul-fill-letter Inv-loop μ-loop
-mul-fill-letter c = omega (arith, places (c .before .before .before .pre .pair))
+mul-fill-letter c = omega (arith, places (c .before .before .before .pre .couple))
 
 element-copy-out-fill-letter : tie.Need-element-copy-out-fill-letter Inv-loop μ-loop
-element-copy-out-fill-letter c = omega (arith, places (c .before .before .before .pre .pair))
+element-copy-out-fill-letter c = omega (arith, places (c .before .before .before .pre .couple))
 
 fill-letter-requires : tie.Need-fill-letter-requires Inv-loop μ-loop
 fill-letter-requires c κs = letter-fillable (c .before .before .before .before .before .pre) (c .before .before .before .loop .inv) (c .before .before .loop-test .taken)

@@ -2,7 +2,8 @@
 -- Assumes nothing.
 use native.Mathlib.Omega.{arith}
 use mathlib.Core.Path.{_∙_, sym}
-use Rattle.steps.proofs.Writing.{places, other-fits, other-stored, use-liftable, use-stored}
+use Rattle.steps.proofs.Couples.{places}
+use Rattle.steps.proofs.Writing.{other-fits, other-stored, use-liftable, use-stored}
 use borrow.Author.Needs.{needs}
 use Rattle.steps.proofs.fill_letter.Statement.{statement}
 use Rattle.steps.proofs.fill_letter.Tie as tie
@@ -29,22 +30,22 @@ returns : tie.Need-returns
 returns c = other-stored (c .before .before .before .before .pre) (sym (c .before .before .use-of .ensures .0) ∙ c .before .if1 .taken) (c .lowered-letter .ensures)
 
 sub-k : tie.Need-sub-k
-sub-k c = omega (arith, c .before .before .before .before .before .pre .inner, c .narrow .ensures, c .before .depth-of .ensures .0)
+sub-k c = omega (arith, places (c .before .before .before .before .before .pre .couple), c .before .before .before .before .before .pre .inner, c .narrow .ensures, c .before .depth-of .ensures .0)
 
 sub-k-2 : tie.Need-sub-k-2
-sub-k-2 c = omega (arith, c .before .before .before .before .before .pre .inner, c .narrow .ensures, c .before .depth-of .ensures .0)
+sub-k-2 c = omega (arith, places (c .before .before .before .before .before .pre .couple), c .before .before .before .before .before .pre .inner, c .narrow .ensures, c .before .depth-of .ensures .0)
 
 add-lift-to : tie.Need-add-lift-to
-add-lift-to c = omega (arith, places (c .before .before .before .before .before .pre .pair))
+add-lift-to c = omega (arith, places (c .before .before .before .before .before .pre .couple))
 
 lift-to-requires : tie.Need-lift-to-requires
 lift-to-requires c κs = rw (c .before .before .before .narrow .ensures, c .before .before .before .before .depth-of .ensures .0, c .before .narrow2 .ensures, c .before .before .height-of .ensures .0) (use-liftable (c .before .before .before .before .before .before .before .before .pre) (λ e. c .before .before .before .before .before .if1 .left (c .before .before .before .before .before .before .use-of .ensures .0 ∙ e)))
 
 add-result-2 : tie.Need-add-result-2
-add-result-2 c = omega (arith, places (c .before .before .before .before .before .before .before .before .before .before .before .pre .pair))
+add-result-2 c = omega (arith, places (c .before .before .before .before .before .before .before .before .before .before .before .pre .couple))
 
 sub-result : tie.Need-sub-result
-sub-result c = omega (arith, places (c .before .before .before .before .before .before .before .before .before .before .before .pre .pair))
+sub-result c = omega (arith, places (c .before .before .before .before .before .before .before .before .before .before .before .pre .couple))
 
 add-result-3 : tie.Need-add-result-3
 add-result-3 c = omega (arith, use-liftable (c .before .before .before .before .before .before .before .before .before .before .before .pre) (λ e. c .before .before .before .before .before .before .before .before .if1 .left (c .before .before .before .before .before .before .before .before .before .use-of .ensures .0 ∙ e)) .1)
