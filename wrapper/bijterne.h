@@ -52,7 +52,7 @@ void bijterne_examine_file(const uint8_t *s, size_t n, uint64_t answer[3]);
 uint32_t bijterne_write_type(const uint8_t *s, size_t n, uint8_t *out, size_t m, uint64_t answer[3]);
 
 /* Applies one step to a bare term, with an empty frame, and writes the result to the start of out: numbers 3 to 6, 10, 11 and
- * 14. kind is 1 (local), 2 (removal) or 3 (the whole substitution: every use of a pair's variable is replaced, and the pair
+ * 14. kind is 1 (local), 2 (removal) or 3 (the whole substitution: every use of a couple's variable is replaced, and the couple
  * removed; only the result is measured for 11); place counts in the term from 0. answer: number, place, length written (0 if
  * refused). */
 void bijterne_apply_step(const uint8_t *s, size_t n, uint8_t kind, uint16_t place, uint8_t *out, size_t m, uint64_t answer[3]);

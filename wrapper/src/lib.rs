@@ -118,7 +118,7 @@ pub fn write_type(term: &[u8], out: &mut [u8]) -> Option<Written> {
 }
 
 /// Applies one step to a bare term, with an empty frame, and writes the result to the start of `out`. `kind` is 1 (local), 2
-/// (removal) or 3 (the whole substitution: every use of a pair's variable is replaced, and the pair removed).
+/// (removal) or 3 (the whole substitution: every use of a couple's variable is replaced, and the couple removed).
 pub fn apply_step(term: &[u8], kind: u8, place: u16, out: &mut [u8]) -> Written {
     let mut a = [0; 3];
     // SAFETY: as above.

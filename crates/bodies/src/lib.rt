@@ -158,14 +158,14 @@ fn partner_of(s: &Letters, q: usize) -> Binder
         i -= 1;
         let x = s[i];
         let g = height_of(x);
-        if g < h {
-            return Binder {
-                applied: 0,
-                end: 0,
-                abstractor: q,
-            };
-        }
-        if g == h {
+        if g <= h {
+            if g < h {
+                return Binder {
+                    applied: 0,
+                    end: 0,
+                    abstractor: q,
+                };
+            }
             if symbol_of(x) == APPLICATOR {
                 if unmatched == 0 {
                     return Binder {

@@ -73,13 +73,16 @@ right-step kind = group-of 0 [] 3 (kind ∷ 0x00 ∷ 0x00 ∷ [])
 abbrev pub twice : ℕ → List ℕ
 twice kind = kind ∷ 0x00 ∷ 0x00 ∷ kind ∷ 0x00 ∷ 0x00 ∷ []
 
--- n times s; and n times ff 00, and then s.
+-- n times s; and n times ff 00, or fe 00, and then s.
 unfoldable pub times : ℕ → List ℕ → List ℕ
 times zero s = []
 times (suc n) s = s ++ times n s
 
 abbrev pub abstractors : ℕ → List ℕ → List ℕ
 abstractors n s = times n (0xff ∷ 0x00 ∷ []) ++ s
+
+abbrev pub applicators : ℕ → List ℕ → List ℕ
+applicators n s = times n (0xfe ∷ 0x00 ∷ []) ++ s
 
 abbrev pub e1 : List ℕ
 e1 = 0xff ∷ 0x00 ∷ 0xff ∷ 0x01 ∷ 0x01 ∷ []
@@ -115,13 +118,17 @@ inner = 0xff ∷ 0x00 ∷ 0xff ∷ 0x01 ∷ 0xfe ∷ 0x01 ∷ 0xff ∷ 0xfe ∷ 
 -- request (d): n times ⟨τ⟩, n times [τ], and then k: the first applicator and the last abstractor are a couple; so are those of
 -- [τ]⟨1⟩⟨τ⟩[τ][τ]1, and the first applicator and the second [τ] of [τ]⟨1⟩⟨1⟩[1][τ][τ]4
 abbrev pub nested : ℕ → ℕ → List ℕ
-nested n k = times n (0xfe ∷ 0x00 ∷ []) ++ abstractors n (k ∷ [])
+nested n k = applicators n (abstractors n (k ∷ []))
 
 abbrev pub around : List ℕ
 around = 0xff ∷ 0x00 ∷ 0xfe ∷ 0x01 ∷ 0xfe ∷ 0x00 ∷ 0xff ∷ 0x00 ∷ 0xff ∷ 0x00 ∷ 0x01 ∷ []
 
 abbrev pub before-more : List ℕ
 before-more = 0xff ∷ 0x00 ∷ 0xfe ∷ 0x01 ∷ 0xfe ∷ 0x01 ∷ 0xff ∷ 0x01 ∷ 0xff ∷ 0x00 ∷ 0xff ∷ 0x00 ∷ 0x04 ∷ []
+
+-- the train of 003, section 3.3: A A A T A T T A A A A T A T T T T T, each A as ⟨τ⟩ and each T as [τ], where a = 3, t = 2, b = 4 and u = 5
+abbrev pub word : (a t b u : ℕ) → List ℕ
+word a t b u = applicators a (abstractors 1 (applicators 1 (abstractors t (applicators b (abstractors 1 (applicators 1 (abstractors u (0x00 ∷ []))))))))
 
 -- ⟨τ⟩⟨τ⟩[τ][1]τ: the outer couple's U uses the inner one's variable
 abbrev pub used-between : List ℕ
@@ -208,6 +215,10 @@ table =
     -- request (d), D1: a local step at the variable of a couple, with one couple between, and with one in another
     ∷ stepGives (nested 2 0x01) 1 8 (times 10 (0xaa ∷ [])) (answer 0 0 9 (nested 2 0x00 ++ 0xaa ∷ []))
     ∷ stepGives (nested 3 0x01) 1 12 (times 14 (0xaa ∷ [])) (answer 0 0 13 (nested 3 0x00 ++ 0xaa ∷ []))
+    -- of the couples of 003's train, removed: the first A and the last T; the second A and the third T; the fifth A and the last T but one
+    ∷ stepGives (word 3 2 4 5) 2 0 (times 34 (0xaa ∷ [])) (answer 0 0 33 (word 2 2 4 4 ++ 0xaa ∷ []))
+    ∷ stepGives (word 3 2 4 5) 2 2 (times 34 (0xaa ∷ [])) (answer 0 0 33 (word 2 1 4 5 ++ 0xaa ∷ []))
+    ∷ stepGives (word 3 2 4 5) 2 14 (times 34 (0xaa ∷ [])) (answer 0 0 33 (word 3 2 3 4 ++ 0xaa ∷ []))
     -- D2: it lifts K past both abstractors
     ∷ stepGives around 1 10 (times 11 (0xaa ∷ [])) (answer 0 0 11 (0xff ∷ 0x00 ∷ 0xfe ∷ 0x01 ∷ 0xfe ∷ 0x00 ∷ 0xff ∷ 0x00 ∷ 0xff ∷ 0x00 ∷ 0x03 ∷ []))
     -- D3: what stands between stays, and what follows falls by 1; and so for kind 3, whose K is lifted past the abstractor between

@@ -29,13 +29,13 @@ element-copy-out-x : tie.Need-element-copy-out-x Inv-loop μ-loop
 element-copy-out-x c = omega (arith, c .before .before .before .before .pre .inside, c .before .loop .inv .left)
 
 returns : tie.Need-returns Inv-loop μ-loop
-returns c = search-outside (c .before .before .before .before .loop .inv) (c .before .before .before .loop-test .taken) (omega (arith, c .before .height-of2 .ensures .0, c .if1 .taken))
+returns c = search-outside (c .before .before .before .before .before .loop .inv) (c .before .before .before .before .loop-test .taken) (omega (arith, c .before .before .height-of2 .ensures .0, c .if2 .taken))
 
 add-t21 : tie.Need-add-t21 Inv-loop μ-loop
 add-t21 c = omega (arith, c .before .before .before .before .before .before .before .before .loop .inv .left, c .before .before .before .before .before .before .before .before .before .before .before .pre .inside)
 
 returns-2 : tie.Need-returns-2 Inv-loop μ-loop
-returns-2 c = search-partner (c .before .before .before .before .before .before .before .before .loop .inv) (c .before .before .before .before .before .before .before .loop-test .taken) (sym (c .before .before .before .before .before .height-of2 .ensures .0) ∙ c .before .before .before .if2 .taken) (sym (c .before .before .symbol-of .ensures .0) ∙ c .before .if3 .taken) (c .if4 .taken)
+returns-2 c = search-partner (c .before .before .before .before .before .before .before .before .loop .inv) (c .before .before .before .before .before .before .before .loop-test .taken) (omega (arith, c .before .before .before .before .before .height-of2 .ensures .0, c .before .before .before .before .if1 .taken, c .before .before .before .if2 .left)) (sym (c .before .before .symbol-of .ensures .0) ∙ c .before .if3 .taken) (c .if4 .taken)
 
 sub-unmatched : tie.Need-sub-unmatched Inv-loop μ-loop
 sub-unmatched c = omega (arith, c .if4 .left)
@@ -44,13 +44,13 @@ add-unmatched : tie.Need-add-unmatched Inv-loop μ-loop
 add-unmatched c = omega (arith, c .before .before .before .before .before .before .before .loop .inv .left, c .before .before .before .before .before .before .before .before .before .before .pre .inside)
 
 loop-again : tie.Need-loop-again Inv-loop μ-loop
-loop-again c = search-applicator (c .before .before .before .before .before .before .before .before .loop .inv) (c .before .before .before .before .before .before .before .loop-test .taken) (sym (c .before .before .before .before .before .height-of2 .ensures .0) ∙ c .before .before .before .if2 .taken) (sym (c .before .before .symbol-of .ensures .0) ∙ c .before .if3 .taken) (c .if4 .left)
+loop-again c = search-applicator (c .before .before .before .before .before .before .before .before .loop .inv) (c .before .before .before .before .before .before .before .loop-test .taken) (omega (arith, c .before .before .before .before .before .height-of2 .ensures .0, c .before .before .before .before .if1 .taken, c .before .before .before .if2 .left)) (sym (c .before .before .symbol-of .ensures .0) ∙ c .before .if3 .taken) (c .if4 .left)
 
 loop-again-2 : tie.Need-loop-again-2 Inv-loop μ-loop
-loop-again-2 c = search-abstractor (c .before .before .before .before .before .before .before .loop .inv) (c .before .before .before .before .before .before .loop-test .taken) (sym (c .before .before .before .before .height-of2 .ensures .0) ∙ c .before .before .if2 .taken) (λ e. c .if3 .left (c .before .symbol-of .ensures .0 ∙ e))
+loop-again-2 c = search-abstractor (c .before .before .before .before .before .before .before .loop .inv) (c .before .before .before .before .before .before .loop-test .taken) (omega (arith, c .before .before .before .before .height-of2 .ensures .0, c .before .before .before .if1 .taken, c .before .before .if2 .left)) (λ e. c .if3 .left (c .before .symbol-of .ensures .0 ∙ e))
 
 loop-again-3 : tie.Need-loop-again-3 Inv-loop μ-loop
-loop-again-3 c = search-inside (c .before .before .before .before .before .loop .inv) (c .before .before .before .before .loop-test .taken) (omega (arith, c .before .before .height-of2 .ensures .0, c .before .if1 .left, c .if2 .left))
+loop-again-3 c = search-inside (c .before .before .before .before .loop .inv) (c .before .before .before .loop-test .taken) (omega (arith, c .before .height-of2 .ensures .0, c .if1 .left))
 
 returns-3 : tie.Need-returns-3 Inv-loop μ-loop
 returns-3 c = search-end (c .before .loop .inv) (omega (arith, c .loop-test .left))
