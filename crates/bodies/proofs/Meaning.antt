@@ -8,10 +8,10 @@ use mathlib.Core.List.{List, []}
 use native.Mathlib.Omega.{arith}
 use native.Mathlib.Numerals.{add-one}
 use lib.ListN.{length, getD}
-use Rattle.calculus.specs.Terms.{Term, tau, var, app, abs, size, lift}
-use Rattle.calculus.specs.Frames.{Entry, single, pair, domain, Frame, depth, entryAt}
+use Rattle.calculus.specs.Terms.{Term, tau, var, app, abs, lift}
+use Rattle.calculus.specs.Frames.{Entry, single, pair, domain, Frame, entryAt}
 use Rattle.calculus.specs.Types.{type, typeOfVar}
-use Rattle.calculus.specs.Steps.{local, couples, reachOf, kindIn, Reason, wrong-symbol, no-partner, Outcome, reached, refused, mapOutcome, reduceVar, stepHere, stepAt, stepOf, stepBy, step}
+use Rattle.calculus.specs.Steps.{local, couples, reachOf, kindIn, wrong-symbol, no-partner, reached, refused, mapOutcome, reduceVar, stepHere, stepOf, stepBy, step}
 use Rattle.calculus.proofs.Lift.{lift-fusion}
 use Rattle.calculus.proofs.Closed.{closedness}
 use Rattle.calculus.proofs.Ren.{no-some, some-inj}
@@ -26,7 +26,7 @@ use Rattle.frames.proofs.Laws.{stored-depth, span-domain}
 use Rattle.letters.specs.Letters.{applicator, symbolOf, depthOf, heightOf, Lies}
 use Rattle.letters.proofs.Letters.{first, height-letter, lies-end}
 use Rattle.bodies.specs.Ways.{Way, put, frameAt, depthAt}
-use Rattle.bodies.specs.Held.{Held, SomeHeld, InBody, FormAs, reasonNumber, SteppedAs, step-refused, step-reached, TypedAs, no-type, typed, Steps, Types}
+use Rattle.bodies.specs.Held.{Held, SomeHeld, InBody, reasonNumber, SteppedAs, step-refused, step-reached, TypedAs, no-type, typed, Steps, Types}
 use Rattle.bodies.specs.Finding.{Found, DomainLies, BindsDomain, EntryLies, lies-single, lies-pair, Binds, BoundInside, SomeBound, Finds}
 use Rattle.bodies.specs.Moving.{Ending}
 use Rattle.bodies.specs.Putting.{SourceIs, in-frame, in-body, Puttable, PutsTerm}
@@ -38,7 +38,7 @@ use Rattle.bodies.proofs.Ways.{place-way, step-along, means-outside, La
 use Rattle.bodies.proofs.Binding.{found-domain}
 use Rattle.bodies.proofs.Extents.{above}
 use Rattle.bodies.proofs.Endings.{ending-is}
-use Rattle.bodies.proofs.Places.{At, at-way, index-there}
+use Rattle.bodies.proofs.Places.{at-way, index-there}
 
 -- ---- A variable, and what is no variable, by the letter's symbol.
 variable-is : {k : ℕ} (u : Term) → k ≡ first u → 1 ≤ k → k < applicator → u ≡ var k

@@ -1,13 +1,13 @@
 -- Laws of the way to a place of a term: the step there, sizes, scopes, closed terms, and the type at the last place.
 -- Assumes nothing.
 use Prim.Native.Nat.{ℕ, zero, suc, _+_, _-_, _≤_, _<_, max}
-use mathlib.Core.Path.{_≡_, refl, ap, ap₂, sym, subst, _∙_}
+use mathlib.Core.Path.{_≡_, refl, ap, sym, subst, _∙_}
 use mathlib.Core.Option.{Option, none, some, Option·map}
 use mathlib.Core.List.{List, [], _∷_}
 use native.Mathlib.Omega.{arith}
 use borrow.Author.Tests.{lt-ltb, le-ltb}
 use Rattle.calculus.specs.Terms.{Term, tau, var, app, abs, size, Closed, closed-app, closed-abs}
-use Rattle.calculus.specs.Frames.{Entry, single, domain, Frame, ε, _▹_, depth, entryAt, ClosedFrame, closed-entry}
+use Rattle.calculus.specs.Frames.{Entry, single, domain, Frame, _▹_, depth, entryAt, ClosedFrame, closed-entry}
 use Rattle.calculus.specs.Types.{typeOfVar, type}
 use Rattle.calculus.specs.Steps.{Kind, couples, mapOutcome, stepHere, entryOf, unmatched, stepAt}
 use Rattle.calculus.proofs.Lift.{lo, hi, cmp}

@@ -1,11 +1,11 @@
 -- A term takes the place of a variable, lifted: U for a type, K for a local step.
 -- Assumes nothing.
-use Prim.Native.Nat.{ℕ, _+_, _-_, _≤_, _<_}
+use Prim.Native.Nat.{ℕ, _+_, _-_, _≤_}
 use mathlib.Core.Path.{_≡_}
 use mathlib.Core.Bool.{Bool, true, false}
 use mathlib.Core.List.{List}
 use lib.ListN.{length}
-use Rattle.calculus.specs.Terms.{Term, var, size, Closed, lift}
+use Rattle.calculus.specs.Terms.{Term, var, Closed, lift}
 use Rattle.calculus.specs.Frames.{Frame, depth}
 use Rattle.code.specs.Limits.{longestTerm, longestState, mostAbstractors}
 use Rattle.code.specs.Scope.{scope}

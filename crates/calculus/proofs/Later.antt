@@ -2,12 +2,11 @@
 -- Assumes nothing.
 use Prim.Native.Nat.{ℕ}
 use mathlib.Core.Path.{_≡_, refl, ap, ap₂, sym, _∙_, fun-ext}
-use mathlib.Core.Logic.{_↔_}
 use mathlib.Core.List.{List, [], _∷_, _++_}
 use borrow.Author.Tests.{ne-eqb}
 use Rattle.calculus.specs.Terms.{Term}
 use Rattle.calculus.specs.Frames.{Frame}
-use Rattle.calculus.specs.Steps.{Step, Reach, Reading, base, full, reachOf, kindIn, Outcome, reached, refused, thenOutcome, stepOf, stepBy, replayBy}
+use Rattle.calculus.specs.Steps.{Step, Reach, Reading, base, full, reachOf, kindIn, reached, thenOutcome, stepOf, stepBy, replayBy}
 use Rattle.calculus.specs.Rules.{Group, SameBy, State, Next, HoldsBy, nothing-left, met, by-rule, groups}
 use Rattle.calculus.specs.Whole.{spell, NoWhole, none-left, one-more, Joins, as-wide, Later, base-full}
 use Rattle.calculus.specs.Claims.{Readings, LaterReadings}

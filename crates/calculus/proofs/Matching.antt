@@ -8,7 +8,7 @@ use native.Mathlib.Nat.{add-zero}
 use Rattle.calculus.specs.Terms.{Term, tau, var, app, abs, lift, liftAll}
 use Rattle.calculus.specs.Frames.{pair, Frame, _▹_}
 use Rattle.calculus.specs.Steps.{Kind, local, couples, reachOf, kindIn, Outcome, reached, refused, mapOutcome, ifFar, atPartner, entryOf, unmatched, stepAt, stepOf, stepBy, step}
-use Rattle.calculus.specs.Whole.{past, at}
+use Rattle.calculus.specs.Whole.{at}
 use Rattle.calculus.specs.Couples.{Wagon, applicator, abstractor, train, binders, Matched, matched-none, matched-couple, pastAll, frameAfter, unmatchedAfter, liftAllBy, Couple, CoupleAfter, Coupling}
 use Rattle.calculus.proofs.Lift.{lift-zero, lift-fusion}
 use Rattle.calculus.proofs.Weaken.{refused-reached}

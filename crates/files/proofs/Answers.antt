@@ -35,11 +35,11 @@ use Rattle.fields.specs.Files.{writeFile, StepsFit, GroupsFit, groupsPlaced}
 use Rattle.fields.specs.Files as files
 use Rattle.fields.proofs.Groups.{numbers as fields-numbers}
 use Rattle.fields.proofs.Written.{read-back, same-term, same-groups, in-bytes, only-written}
-use Rattle.examine.specs.Inspect.{Examined, examined, termAnswer}
+use Rattle.examine.specs.Inspect.{Examined, examined}
 use Rattle.examine.specs.Inspect as term
 use Rattle.examine.proofs.Laws.{examining-holds}
 use Rattle.verdict.specs.Bounds.{bodyFits, stateFits, stateScope, stateSize, frameScope, waitingScope}
-use Rattle.verdict.specs.Verdict.{Progress, Run, passed, stopped, checkTermBy, checkTerm, number, Ground}
+use Rattle.verdict.specs.Verdict.{Progress, Run, passed, stopped, checkTermBy, checkTerm, number}
 use Rattle.verdict.specs.Claims.{StateFits, FormsFit, no-form, next-form, AllFit, progressOf, RefusedStep, refused-step}
 use Rattle.verdict.proofs.Runs.{cond-both}
 use Rattle.verdict.proofs.Former.{former-runs}

@@ -7,10 +7,9 @@ use mathlib.Core.List.{List, []}
 use native.Mathlib.Omega.{arith}
 use native.Mathlib.Numerals.{add-one}
 use lib.ListN.{length, getD}
-use lib.Seq.{getD-drop}
 use Rattle.calculus.specs.Terms.{Term, tau, var, app, abs, size}
 use Rattle.calculus.specs.Frames.{Frame, depth}
-use Rattle.calculus.specs.Steps.{removal, whole, couples, reachOf, kindIn, Reason, unknown-kind, past-end, wrong-symbol, no-partner, still-used, Outcome, refused, mapOutcome, remove, fill, atPartner, stepHere, stepOf, stepBy, step}
+use Rattle.calculus.specs.Steps.{removal, whole, couples, reachOf, kindIn, Reason, unknown-kind, past-end, wrong-symbol, no-partner, still-used, Outcome, refused, mapOutcome, remove, fill, stepHere, stepOf, stepBy, step}
 use Rattle.code.specs.Limits.{longestTerm, mostAbstractors}
 use Rattle.code.specs.Scope.{scope}
 use Rattle.frames.specs.declared.FrameRecord.{FrameRecord}
@@ -26,7 +25,7 @@ use Rattle.bodies.proofs.Endings.{ending-is}
 use Rattle.bodies.proofs.Places.{At, at-way}
 use Rattle.bodies.proofs.Meaning.{way-there}
 use Rattle.steps.specs.Lowering.{InScope}
-use Rattle.steps.specs.Couples.{InSomeBody, Train, TrainLies, SomeTrain, PartnerIs, nobody, somebody, Partnered, CoupleLies, SomeCouple, CoupleAt, Sought, no-couple, couple-there, Searches}
+use Rattle.steps.specs.Couples.{InSomeBody, Train, TrainLies, SomeTrain, PartnerIs, nobody, somebody, Partnered, SomeCouple, CoupleAt, Sought, no-couple, couple-there, Searches}
 use Rattle.steps.specs.declared.Couple.{Couple}
 use Rattle.steps.proofs.Trains.{train-scope, train-lies, wagons-lie, wagon-end, application-is}
 

@@ -30,7 +30,7 @@ use Rattle.steps.specs.Couples.{InSomeBody, instead, SomeCouple, remaini
 use Rattle.steps.specs.declared.Couple.{Couple}
 use Rattle.steps.proofs.Lowering.{lowered-lies, uses-none, uses-some, lower-size, lower-scope}
 use Rattle.steps.proofs.Trains.{partner-along, train-scope, instead-size, instead-scope, instead-letters}
-use Rattle.steps.proofs.Couples.{removal-here, bounds, couple-of-body, some-couple, couple-inside, places, in-scope}
+use Rattle.steps.proofs.Couples.{removal-here, couple-of-body, some-couple, places, in-scope}
 use Rattle.steps.proofs.Writing.{later-letters, behind-gap}
 
 at-drop : (s : List ℕ) (j : ℕ) → getD s j 0 ≡ getD (drop j s) 0 0
@@ -100,14 +100,14 @@ module _ {W : List ℕ} {f : FrameRecord} {s : List ℕ} {n p : ℕ} {R : Frame}
             let l = o .lies in
             let z : step R (record { kind = 2; place = p }) t ≡ reached (put (o .way) (instead (o .train) L)) = removes r in
             let sizes : size L ≡ x .end - x .rest = lower-size 0 (o .B) L r ∙ omega (arith, l .rest .place) in
-            let same : part s₁ (x .rest) (x .end) ≡ part s (x .rest) (x .end) = rw (later-letters g (o .inside) most c (x .rest) (omega (arith, places g))) refl in
+            let same : part s₁ (x .rest) (x .end) ≡ part s (x .rest) (x .end) = rw (later-letters g c (x .rest) (omega (arith, places g))) refl in
             let whole-size = instead-size (o .train) L in
             let whole-scope = instead-scope (o .train) L in
             let old-scope = train-scope (o .train) in
             step-reached z (put-held y (o .way) (instead (o .train) L) {m = n - (x .rest - at)} (closedness .step-closed (record { kind = 2; place = p }) (y .closed-frame) (y .closed) z)
             (omega (arith, lower-scope 0 (o .B) L r, o .few, o .deep)) (omega (arith, most))
             (omega (arith, sizes, l .rest .place, l .place, o .inside, o .ends, places g)) (o .ends)
-            (subst (Spliced s s₃ n p (x .end)) (form-letters L) (behind-gap g (o .inside) most c
+            (subst (Spliced s s₃ n p (x .end)) (form-letters L) (behind-gap g c
             (dropped (omega (arith, c .same-length, y .array, most)) (omega (arith, places g)) (omega (arith, places g)) (o .inside) (length-letters (x .depth) H L ∙ sizes)
             (a .letters-there ∙ ap (sets s₁ (x .rest)) (ap (map (loweredLetter (x .depth))) same ∙ lowered-lies (l .rest) few r)) (a .same-length) d))))
 
@@ -127,7 +127,7 @@ module _ {s : List ℕ} {n p : ℕ} (g : InSomeBody s n p) {x : Couple} (c : Sea
     }
       where
         same : (j : ℕ) → x .rest ≤ j → getD s j 0 ≡ getD s₁ j 0
-        same j u = at-drop s j ∙ ap (λ l. getD l 0 0) (sym (later-letters there (couple-inside g c e) (bounds g .1) a j (omega (arith, places there)))) ∙ sym (at-drop s₁ j)
+        same j u = at-drop s j ∙ ap (λ l. getD l 0 0) (sym (later-letters there a j (omega (arith, places there)))) ∙ sym (at-drop s₁ j)
 
   module _ {r : ℕ} (q : r ≡ usesOf (x .depth) (part s (x .rest) (x .end))) where
     pub still : (r ≡ 0 → ⊥) → (w : List ℕ) (f : FrameRecord) → Steps w f s s n (record { kind = 2; place = p }) (Refused 5)

@@ -3,7 +3,7 @@
 use Prim.Native.Nat.{ℕ, suc, _+_, _-_, _≤_, _<_, max}
 use mathlib.Core.Path.{_≡_, refl, ap, ap₂, sym, subst, _∙_}
 use mathlib.Core.Logic.{_⊎_, inl, inr}
-use mathlib.Core.List.{List, [], _∷_, _++_, append-assoc}
+use mathlib.Core.List.{List, _∷_, _++_, append-assoc}
 use native.Mathlib.Omega.{arith}
 use native.Mathlib.Nat.{add-zero, add-suc}
 use native.Mathlib.Numerals.{add-one}
@@ -13,7 +13,7 @@ use Rattle.calculus.specs.Terms.{Term, tau, var, app, abs, size, lift}
 use Rattle.calculus.specs.Steps.{no-partner, couples, Outcome, refused, mapOutcome, ifFar, atPartner}
 use Rattle.calculus.proofs.Lift.{lift-zero, lift-suc}
 use Rattle.calculus.proofs.Matching.{map-none, map-map}
-use Rattle.code.specs.Limits.{longestTerm, mostAbstractors}
+use Rattle.code.specs.Limits.{longestTerm}
 use Rattle.code.specs.Code.{Coded}
 use Rattle.code.specs.Scope.{scope}
 use Rattle.parts.specs.Parts.{part}

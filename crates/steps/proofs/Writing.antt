@@ -231,7 +231,7 @@ module _ {s : List ℕ} {p : ℕ} {x : Couple} {out₀ out : List ℕ} {i j : �
   filling-end l = record { letters-there = ap (λ v. sets out j (filled (x .depth) (x .outer) (heightOf (getD s (p + 1) 0)) (part s (p + 1) (x .between)) v)) (sym (part-empty s i (x .end) l)) ∙ w .result; same-length = w .same-length }
 
 -- ---- Into the body, behind what stands between, which moves to p first.
-module _ {s s₁ : List ℕ} {n p : ℕ} {x : Couple} (g : SomeCouple s p x) (i : x .end ≤ n) (l : n ≤ longestTerm) (c : Copied s (x .between) (x .abstractor) s s₁ (x .between - (x .between - p))) where
+module _ {s s₁ : List ℕ} {p : ℕ} {x : Couple} (g : SomeCouple s p x) (c : Copied s (x .between) (x .abstractor) s s₁ (x .between - (x .between - p))) where
   abbrev gap : ℕ
   gap = x .abstractor - x .between
 
@@ -248,7 +248,7 @@ module _ {s s₁ : List ℕ} {n p : ℕ} {x : Couple} (g : SomeCouple s p x) (i 
   pub later-letters : (j : ℕ) → x .abstractor ≤ j → drop j s₁ ≡ drop j s
   later-letters j a = ap (drop j) stored-gap ∙ drop-sets (remaining s x) s p j (omega (arith, count-gap, places g))
 
-  pub behind-gap : {s₂ v : List ℕ} → Spliced s₁ s₂ n (p + gap) (x .end) v → Spliced s s₂ n p (x .end) (remaining s x ++ v)
+  pub behind-gap : {s₂ v : List ℕ} {n : ℕ} → Spliced s₁ s₂ n (p + gap) (x .end) v → Spliced s s₂ n p (x .end) (remaining s x ++ v)
   behind-gap {v = v} d = record {
     rest = d .rest;
     letters-there = d .letters-there ∙ rw (first-part, later-letters (x .end) (omega (arith, places g))) (simp append-assoc);
@@ -277,5 +277,5 @@ module _ {s : List ℕ} {n p : ℕ} {x : Couple} {count : ℕ} (g : Rewritable s
       written = ap (λ z. part z 0 count) (a .letters-there) ∙ rw (sub-zero count) (ap (take count) (drop-sets-start (filling s p x) out 0 (omega (arith, g .count-is))) ∙ take-at (filling s p x) (drop (0 + length (filling s p x)) out) count (sym (g .count-is)))
 
       pub rewritten : {s₃ : List ℕ} → Copied out′ 0 count s₂ s₃ at → Spliced s s₃ n p (x .end) (remaining s x ++ filling s p x)
-      rewritten d = behind-gap (g .couple) (g .inside) (g .most) c
+      rewritten d = behind-gap (g .couple) c
           (splice (g .inside) (movable .1) (omega (arith, g .count-is, movable)) (subst (λ z. Copied s₁ (x .end) n s₁ s₂ (at + z)) (g .count-is) b) (d .bytes ∙ ap (sets s₂ at) written) (d .same-length ∙ b .same-length))

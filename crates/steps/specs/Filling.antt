@@ -7,7 +7,6 @@ use mathlib.Core.List.{List, [], _∷_, _++_, map}
 use lib.Dec.{eqb}
 use lib.ListN.{length, getD}
 use lib.Seq.{sets}
-use Rattle.calculus.specs.Terms.{Term}
 use Rattle.code.specs.Limits.{longestTerm, mostAbstractors}
 use Rattle.code.specs.Scope.{scope}
 use Rattle.parts.specs.Parts.{part}

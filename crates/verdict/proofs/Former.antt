@@ -11,10 +11,10 @@ use Rattle.calculus.specs.Frames.{Frame}
 use Rattle.calculus.specs.Types.{type}
 use Rattle.calculus.specs.Steps.{Step, Reach, couples, base, full, Reason, Outcome, reached, refused, stepBy}
 use Rattle.calculus.specs.Rules.{Group, State, Next, asks, stops, onePassNext}
-use Rattle.calculus.specs.Whole.{NoWhole, none-left, one-more, NoWholes, no-groups, one-group}
+use Rattle.calculus.specs.Whole.{NoWhole, one-more, NoWholes, no-groups, one-group}
 use Rattle.calculus.proofs.Later.{same-step}
 use Rattle.verdict.specs.Bounds.{stateFits, bodyFits}
-use Rattle.verdict.specs.Verdict.{Item, state-at, same-at, placed, Ground, Progress, turned, completed, Run, OtherSide, right-next, left-reached, sideOf, Configuration, on-state, on-step, Status, at-turn, done, identical, formsMeet, sideFrom, withGroup, withType, toTurn, replaced, stepped, turnBy, turn, onward, runBy, states, steps, finishBy, asked, begun, start, checkTermBy}
+use Rattle.verdict.specs.Verdict.{Item, state-at, same-at, placed, Ground, Progress, turned, completed, Run, OtherSide, right-next, left-reached, Configuration, on-state, on-step, Status, at-turn, done, identical, formsMeet, sideFrom, withGroup, withType, toTurn, replaced, stepped, turnBy, turn, onward, runBy, states, steps, finishBy, asked, begun, start, checkTermBy}
 use Rattle.verdict.specs.Claims.{afterTurns, FormerTurn, for-state, for-step, FormerRuns}
 
 abbrev ClearSide : OtherSide → Type 0

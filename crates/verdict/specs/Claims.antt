@@ -13,7 +13,7 @@ use Rattle.calculus.specs.Whole.{NoWholes, Later}
 use Rattle.calculus.specs.Walks.{ownStates}
 use Rattle.code.specs.Refusals.{noType, bodiesDiffer}
 use Rattle.verdict.specs.Bounds.{stateFits, bodyFits}
-use Rattle.verdict.specs.Verdict.{Item, state-at, same-at, placed, Side, Ground, step-refused, state-outgrown, not-reached, groundOf, Progress, turned, Run, passed, stopped, andThen, OtherSide, Configuration, on-state, on-step, Status, at-turn, done, turn, steps, finish, start, checkTermBy, checkTerm, number}
+use Rattle.verdict.specs.Verdict.{Item, state-at, same-at, placed, Side, Ground, step-refused, state-outgrown, groundOf, Progress, turned, Run, passed, stopped, andThen, OtherSide, Configuration, on-state, on-step, Status, at-turn, done, turn, steps, finish, start, checkTermBy, checkTerm, number}
 
 -- WITHIN THE LIMITS
 -- Every form that a list of steps carries a body to.

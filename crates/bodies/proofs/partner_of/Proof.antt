@@ -1,6 +1,6 @@
 -- `bodies::partner_of` meets its contract: what is found from i on is what is found from q on (`Searching` of Finding.antt).
 -- Assumes nothing.
-use mathlib.Core.Path.{_≡_, refl, sym, _∙_}
+use mathlib.Core.Path.{refl, sym, _∙_}
 use native.Mathlib.Omega.{arith}
 use Rattle.bodies.proofs.Finding.{Searching, search-end, search-outside, search-inside, search-abstractor, search-partner, search-applicator}
 use borrow.Author.Needs.{needs}
