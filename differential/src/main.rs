@@ -29,7 +29,7 @@ mod tally;
 
 use call::{Answer, Call, Kind};
 use reference::frame::{LOCAL, REMOVAL, SUBSTITUTION};
-use reference::gen::{bare_term, closed_term, empty_groups, file, random_file, step_for, train_after, Wagon};
+use reference::gen::{bare_term, closed_term, empty_groups, file, random_file, step_for, items_after, ItemKind};
 use reference::rng::Rng;
 use reference::mistakes::set_aside;
 use reference::page::page_length;
@@ -153,10 +153,10 @@ fn fixed(tally: &mut Tally) -> Result<usize, Disagreed> {
 /// The steps of kinds 1 to 3 at every place of a train for every sequence of at most 8 applicators and abstractors, after two
 /// abstractors more.
 fn trains(rng: &mut Rng, tally: &mut Tally) -> Result<(), Disagreed> {
-    let sorts = [Wagon::Applicator, Wagon::Abstractor];
+    let sorts = [ItemKind::Applicator, ItemKind::Abstractor];
     for word in strings(&[0, 1], 8) {
-        let word: Vec<Wagon> = word.iter().map(|sort| sorts[usize::from(*sort)]).collect();
-        let train = set_aside(|| train_after(rng, &word, 2)).bytes();
+        let word: Vec<ItemKind> = word.iter().map(|sort| sorts[usize::from(*sort)]).collect();
+        let train = set_aside(|| items_after(rng, &word, 2)).bytes();
         let input = [&[0xff, 0, 0xff, 0], &train[..]].concat();
         for place in 0..=input.len() as u16 {
             for kind in [LOCAL, REMOVAL, SUBSTITUTION] {

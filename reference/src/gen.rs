@@ -125,38 +125,38 @@ fn with_uses(rng: &mut Rng, term: &Term, index: u64, of_four: usize) -> Term {
 
 /// An item of a train by its sort alone.
 #[derive(Clone, Copy, PartialEq, Eq, Debug)]
-pub enum Wagon {
+pub enum ItemKind {
     Applicator,
     Abstractor,
 }
 
 /// A word of so many couples, nested and side by side: with four of them, up to
 /// six items stand between the two of a couple.
-fn coupled_word(rng: &mut Rng, couples: usize) -> Vec<Wagon> {
+fn coupled_word(rng: &mut Rng, couples: usize) -> Vec<ItemKind> {
     if couples == 0 {
         return Vec::new();
     }
     let between = rng.below(couples);
-    let mut word = vec![Wagon::Applicator];
+    let mut word = vec![ItemKind::Applicator];
     word.extend(coupled_word(rng, between));
-    word.push(Wagon::Abstractor);
+    word.push(ItemKind::Abstractor);
     word.extend(coupled_word(rng, couples - 1 - between));
     word
 }
 
 /// A word with one to four couples, sometimes unmatched abstractors and others
 /// before them, and unmatched applicators and others after them.
-fn train_word(rng: &mut Rng) -> Vec<Wagon> {
+fn train_word(rng: &mut Rng) -> Vec<ItemKind> {
     let mut word = Vec::new();
     for _ in 0..rng.below(3) {
         let couples = rng.below(2);
         word.extend(coupled_word(rng, couples));
-        word.push(Wagon::Abstractor);
+        word.push(ItemKind::Abstractor);
     }
     let couples = rng.between(1, 4);
     word.extend(coupled_word(rng, couples));
     for _ in 0..rng.below(3) {
-        word.push(Wagon::Applicator);
+        word.push(ItemKind::Applicator);
         let couples = rng.below(2);
         word.extend(coupled_word(rng, couples));
     }
@@ -167,31 +167,35 @@ fn train_word(rng: &mut Rng) -> Vec<Wagon> {
 pub fn coupled_term(rng: &mut Rng) -> Term {
     let depth = *rng.pick(&[0, 1, 2, 3, 240]);
     let word = train_word(rng);
-    let term = train_after(rng, &word, depth);
+    let term = items_after(rng, &word, depth);
     (0..depth).fold(term, |rest, _| abs(Tau, rest))
 }
 
 /// A train of this word, with something small in its items and after them.
-pub fn train_after(rng: &mut Rng, word: &[Wagon], depth: u64) -> Term {
+pub fn items_after(rng: &mut Rng, word: &[ItemKind], depth: u64) -> Term {
     let size = *rng.pick(&[1, 1, 1, 3, 5]);
     let Some((first, rest)) = word.split_first() else {
         return closed_after(rng, size, depth);
     };
     let inner = match rng.below(16) {
-        0 => train_after(
+        0 => items_after(
             rng,
-            &[Wagon::Applicator, Wagon::Applicator, Wagon::Abstractor],
+            &[
+                ItemKind::Applicator,
+                ItemKind::Applicator,
+                ItemKind::Abstractor,
+            ],
             depth,
         ),
         1 => {
             let word = coupled_word(rng, 2);
-            train_after(rng, &word, depth)
+            items_after(rng, &word, depth)
         }
         _ => closed_after(rng, size, depth),
     };
     match first {
-        Wagon::Applicator => app(inner, train_after(rng, rest, depth)),
-        Wagon::Abstractor => abs(inner, train_after(rng, rest, depth + 1)),
+        ItemKind::Applicator => app(inner, items_after(rng, rest, depth)),
+        ItemKind::Abstractor => abs(inner, items_after(rng, rest, depth + 1)),
     }
 }
 
@@ -535,7 +539,7 @@ impl Maker<'_> {
     fn after_word(
         &mut self,
         frame: &mut Frame,
-        word: &[Wagon],
+        word: &[ItemKind],
         waiting: &mut Vec<(Term, Term)>,
         term: Term,
     ) -> Term {
@@ -543,7 +547,7 @@ impl Maker<'_> {
             return term;
         };
         match first {
-            Wagon::Applicator => {
+            ItemKind::Applicator => {
                 let (k, u) = match self.definition(frame, 1) {
                     Some(definition) => definition,
                     None => {
@@ -555,7 +559,7 @@ impl Maker<'_> {
                 waiting.push((k.clone(), u));
                 app(k, self.after_word(frame, word, waiting, term))
             }
-            Wagon::Abstractor => {
+            ItemKind::Abstractor => {
                 let (k, u) = waiting.pop().expect("the word is coupled");
                 let named = self.fold(&term.lift(1), &k.lift(1), 1);
                 frame.push(Entry::Pair(k, u.clone()));

@@ -20,7 +20,7 @@ use Rattle.bodies.specs.Finding.{BinderAt, Findable, Found, partnerFrom,
 use Rattle.bodies.specs.declared.Binder.{Binder}
 use Rattle.bodies.proofs.Ways.{way-within, means-outside, domain-entry}
 use Rattle.bodies.proofs.Extents.{Parts, app-parts, abs-parts, Above, above}
-use Rattle.bodies.proofs.Finding.{outside-train, at-abstractor, at-partner, at-applicator, past-wagon}
+use Rattle.bodies.proofs.Finding.{less-high, at-abstractor, at-partner, at-applicator, all-higher}
 
 -- ---- The applicators not yet matched before place `at` of a train of depth d and height h: M, and where the search finds them.
 unfoldable nth : List Term → ℕ → Option Term
@@ -93,11 +93,11 @@ module _ {s : List ℕ} {from e d h dB x : ℕ} {K B : Term} (P : Parts s from e
 
   behind-inside : Behind s (suc h) (suc from) d []
   unfolding nth
-  behind-inside = record { all = λ n. subst (Spot s (suc h) (suc from) d none) (sym (outside-train s (suc h) from n (suc from) (omega (arith, height-from)))) nobody }
+  behind-inside = record { all = λ n. subst (Spot s (suc h) (suc from) d none) (sym (less-high s (suc h) from n (suc from) (omega (arith, height-from)))) nobody }
 
   -- past the wagon
   over : (n : ℕ) → partnerFrom s h (P .middle) n (P .middle) ≡ partnerFrom s h (suc from) n (P .middle)
-  over n = ap (λ y. partnerFrom s h y n (P .middle)) (P .inner .place) ∙ past-wagon s h (suc from) (size K) n (P .middle) (λ j u v. omega (arith, above {d = d} K (omega arith) (P .inner) j u (omega (arith, P .inner .place)) .high))
+  over n = ap (λ y. partnerFrom s h y n (P .middle)) (P .inner .place) ∙ all-higher s h (suc from) (size K) n (P .middle) (λ j u v. omega (arith, above {d = d} K (omega arith) (P .inner) j u (omega (arith, P .inner .place)) .high))
 
   later : from ≤ P .middle
   later = omega (arith, P .inner .place)

@@ -54,13 +54,13 @@ module _ {s : List ℕ} {p d q m : ℕ} (c : Scanning s p d q m) (l : 0 < q) whe
 
 -- ---- The applicator: what the letter before place suc i says.
 module _ (s : List ℕ) (h i n next : ℕ) where
-  pub outside-train : heightOf (getD s i 0) < h → partnerFrom s h (suc i) n next ≡ (0, 0)
+  pub less-high : heightOf (getD s i 0) < h → partnerFrom s h (suc i) n next ≡ (0, 0)
   unfolding partnerFrom
-  outside-train l = rw (lt-ltb (heightOf (getD s i 0)) h l)
+  less-high l = rw (lt-ltb (heightOf (getD s i 0)) h l)
 
-  pub inside-wagon : h < heightOf (getD s i 0) → partnerFrom s h (suc i) n next ≡ partnerFrom s h i n next
+  higher : h < heightOf (getD s i 0) → partnerFrom s h (suc i) n next ≡ partnerFrom s h i n next
   unfolding partnerFrom
-  inside-wagon l = rw (le-ltb (heightOf (getD s i 0)) h (omega arith), ne-eqb (heightOf (getD s i 0)) h (λ e. omega arith))
+  higher l = rw (le-ltb (heightOf (getD s i 0)) h (omega arith), ne-eqb (heightOf (getD s i 0)) h (λ e. omega arith))
 
   module _ (e : heightOf (getD s i 0) ≡ h) where
     pub at-abstractor : (symbolOf (getD s i 0) ≡ applicator → ⊥) → partnerFrom s h (suc i) n next ≡ partnerFrom s h i (suc n) i
@@ -77,9 +77,9 @@ module _ (s : List ℕ) (h i n next : ℕ) where
       at-applicator z = rw (le-ltb (heightOf (getD s i 0)) h (omega arith), eq-eqb (heightOf (getD s i 0)) h e, eq-eqb (symbolOf (getD s i 0)) applicator a, ne-eqb n 0 z)
 
 -- Past the letters inside a wagon.
-pub past-wagon : (s : List ℕ) (h from j n next : ℕ) → ((k : ℕ) → from ≤ k → k < from + j → h < heightOf (getD s k 0)) → partnerFrom s h (from + j) n next ≡ partnerFrom s h from n next
-past-wagon s h from zero n next f = ap (λ x. partnerFrom s h x n next) (add-zero from)
-past-wagon s h from (suc j) n next f = ap (λ x. partnerFrom s h x n next) (add-suc from j) ∙ inside-wagon s h (from + j) n next (f (from + j) (omega arith) (omega arith)) ∙ past-wagon s h from j n next (λ k a b. f k a (omega arith))
+pub all-higher : (s : List ℕ) (h from j n next : ℕ) → ((k : ℕ) → from ≤ k → k < from + j → h < heightOf (getD s k 0)) → partnerFrom s h (from + j) n next ≡ partnerFrom s h from n next
+all-higher s h from zero n next f = ap (λ x. partnerFrom s h x n next) (add-zero from)
+all-higher s h from (suc j) n next f = ap (λ x. partnerFrom s h x n next) (add-suc from j) ∙ higher s h (from + j) n next (f (from + j) (omega arith) (omega arith)) ∙ all-higher s h from j n next (λ k a b. f k a (omega arith))
 
 -- The loop: what is found from place i on is what is found from q on.
 pub record Searching (s : List ℕ) (q h i n next : ℕ) : Type 0 where
@@ -104,10 +104,10 @@ module _ {s : List ℕ} {q h i n next : ℕ} (c : Searching s q h i n next) wher
     before-i z = ap (λ x. partnerFrom s h x n next) (omega arith) ∙ z
 
     pub search-outside : heightOf (getD s (i - 1) 0) < h → Mated s q (record { applied = 0; end = 0; abstractor = q })
-    search-outside g = mated (before-i (outside-train s h (i - 1) n next g))
+    search-outside g = mated (before-i (less-high s h (i - 1) n next g))
 
     pub search-inside : h < heightOf (getD s (i - 1) 0) → Searching s q h (i - 1) n next
-    search-inside g = record { here = c .here; left = omega (arith, c .left); same = sym (before-i (inside-wagon s h (i - 1) n next g)) ∙ c .same }
+    search-inside g = record { here = c .here; left = omega (arith, c .left); same = sym (before-i (higher s h (i - 1) n next g)) ∙ c .same }
 
     module _ (e : heightOf (getD s (i - 1) 0) ≡ h) where
       pub search-abstractor : (symbolOf (getD s (i - 1) 0) ≡ applicator → ⊥) → Searching s q h (i - 1) (n + 1) (i - 1)

@@ -44,9 +44,9 @@ partnerFrom s h zero n next = (0, 0)
 partnerFrom s h (suc i) n next =
     let x = getD s i 0 in
     let matched = cond (eqb n 0) (suc i, next) (partnerFrom s h i (n - 1) i) in
-    let wagon = cond (eqb (symbolOf x) applicator) matched (partnerFrom s h i (suc n) i) in
+    let item = cond (eqb (symbolOf x) applicator) matched (partnerFrom s h i (suc n) i) in
     let inside = partnerFrom s h i n next in
-    cond (ltb (heightOf x) h) (0, 0) (cond (eqb (heightOf x) h) wagon inside)
+    cond (ltb (heightOf x) h) (0, 0) (cond (eqb (heightOf x) h) item inside)
 
 pub record Matable (s : List ℕ) (q : ℕ) : Type 0 where
   pub array : length s ≡ longestTerm

@@ -25,9 +25,9 @@ use Rattle.bodies.proofs.Endings.{ending-is}
 use Rattle.bodies.proofs.Places.{At, at-way}
 use Rattle.bodies.proofs.Meaning.{way-there}
 use Rattle.steps.specs.Lowering.{InScope}
-use Rattle.steps.specs.Couples.{InSomeBody, Train, TrainLies, SomeTrain, PartnerIs, nobody, somebody, Partnered, SomeCouple, CoupleAt, Sought, no-couple, couple-there, Searches}
+use Rattle.steps.specs.Couples.{InSomeBody, Tail, TailLies, SomeTail, PartnerIs, nobody, somebody, Partnered, SomeCouple, CoupleAt, Sought, no-couple, couple-there, Searches}
 use Rattle.steps.specs.declared.Couple.{Couple}
-use Rattle.steps.proofs.Trains.{train-scope, train-lies, wagons-lie, wagon-end, application-is}
+use Rattle.steps.proofs.Tails.{tail-scope, tail-lies, passed-lie, item-end, application-is}
 
 -- ---- A step by what stands at p.
 module _ (R : Frame) {t u : Term} {p : ℕ} (w : Way t p u) where
@@ -72,23 +72,23 @@ module _ {s : List ℕ} {n p : ℕ} {R : Frame} {t : Term} (x : AppAt s n p R t)
 
   module _ {m : ℕ} (i : Ending s n (p + 1) (H + 1) m) where
     m-is : m ≡ P .middle
-    m-is = wagon-end P (omega (arith, both-few)) (omega (arith, both-few)) (x .at .there-now .within) i
+    m-is = item-end P (omega (arith, both-few)) (omega (arith, both-few)) (x .at .there-now .within) i
 
-    train-there : TrainLies s n m H E D (x .C)
-    train-there = record { lies = rw m-is (P .rest); few = omega (arith, both-few); inside = x .at .there-now .within }
+    tail-there : TailLies s n m H E D (x .C)
+    tail-there = record { lies = rw m-is (P .rest); few = omega (arith, both-few); inside = x .at .there-now .within }
 
 -- ---- The couple ⟨K⟩..[U]B: K ends at m, the abstractor stands at a, U ends at q, and B at e.
 abbrev found-at : (o d m a q e : ℕ) → Couple
 found-at o d m a q e = record { reason = 0; outer = o; depth = d; between = m; abstractor = a; rest = q; end = e }
 
-couple-of : {s : List ℕ} {n p m a q e c y j : ℕ} {R : Frame} {t U B : Term} (x : AppAt s n p R t) → Ending s n (p + 1) (H x + 1) m → a ≡ m + y → Train (x .C) y 0 j (abs U B)
+couple-of : {s : List ℕ} {n p m a q e c y j : ℕ} {R : Frame} {t U B : Term} (x : AppAt s n p R t) → Ending s n (p + 1) (H x + 1) m → a ≡ m + y → Tail (x .C) y 0 j (abs U B)
     → Ending s n (a + 1) (H x + 1) q → Ending s n q (H x) e → c ≡ depthOf (getD s a 0) → CoupleAt s n p R t (found-at (D x) c m a q e)
 unfolding size scope
 couple-of {s} {n} {p} {m} {a} {q} {e} {c} {y} {j} {R} {t} {U} {B} x i r w k l z =
-    let T = train-there x i in
-    let inner = train-scope w in
-    let Q = abs-parts (subst (λ b. Lies s b (E x) (D x + j) (H x) (abs U B)) (sym r) (train-lies (T .lies) w)) in
-    let q-is = wagon-end Q (omega (arith, T .few)) (omega (arith, T .few)) (T .inside) k in
+    let T = tail-there x i in
+    let inner = tail-scope w in
+    let Q = abs-parts (subst (λ b. Lies s b (E x) (D x + j) (H x) (abs U B)) (sym r) (tail-lies (T .lies) w)) in
+    let q-is = item-end Q (omega (arith, T .few)) (omega (arith, T .few)) (T .inside) k in
     let e-is = ending-is l (record {
       after = omega (arith, lies-end (Q .rest));
       inside = T .inside;
@@ -104,7 +104,7 @@ couple-of {s} {n} {p} {m} {a} {q} {e} {c} {y} {j} {R} {t} {U} {B} x i r w k l z 
       q = y;
       j = j;
       way = x .way;
-      train = w;
+      tail = w;
       deep = refl;
       lies = record {
         argument = rw (add-one p, m-is x i) (P x .inner);
@@ -116,7 +116,7 @@ couple-of {s} {n} {p} {m} {a} {q} {e} {c} {y} {j} {R} {t} {U} {B} x i r w k l z 
         argument-few = both-few x .0;
         rest-few = omega (arith, both-few x);
       };
-      between = wagons-lie (T .lies) w ∙ rw r refl;
+      between = passed-lie (T .lies) w ∙ rw r refl;
       few = both-few x .1;
       ends = omega (arith, x .at .there-now .lies .place);
       inside = omega (arith, T .inside);
@@ -159,31 +159,31 @@ module _ {s : List ℕ} {n p : ℕ} (g : InSomeBody s n p) where
     one : {w : List ℕ} {f : FrameRecord} {R : Frame} {t : Term} (y : Held w f s n R t) → Ending s n (p + 1) (heightAt 0 (found y .way) + 1) m
     one y = subst (λ b. Ending s n (p + 1) (b + 1) m) (high-is y) i
 
-    train-of : {w : List ℕ} {f : FrameRecord} {R : Frame} {t : Term} (y : Held w f s n R t) → TrainLies s n m h (E (found y)) (D (found y)) (found y .C)
-    train-of y = subst (λ b. TrainLies s n m b (E (found y)) (D (found y)) (found y .C)) (sym (high-is y)) (train-there (found y) (one y))
+    tail-of : {w : List ℕ} {f : FrameRecord} {R : Frame} {t : Term} (y : Held w f s n R t) → TailLies s n m h (E (found y)) (D (found y)) (found y .C)
+    tail-of y = subst (λ b. TailLies s n m b (E (found y)) (D (found y)) (found y .C)) (sym (high-is y)) (tail-there (found y) (one y))
 
-    pub some-train : SomeTrain s n m h
-    some-train = record { array = here .array; most = bounds .1; low = omega (arith, high-is here, found here .at .low, i .after); e = E (found here); c = D (found here); C = found here .C; train = train-of here }
+    pub some-tail : SomeTail s n m h
+    some-tail = record { array = here .array; most = bounds .1; low = omega (arith, high-is here, found here .at .low, i .after); e = E (found here); c = D (found here); C = found here .C; tail = tail-of here }
 
     module _ {b : ℕ} (j : Partnered s n m h b) where
       pub alone : {r : Couple} → b ≡ n → r .reason ≡ 4 → Searches s n p r
       unfolding reasonNumber mapOutcome stepHere
-      alone {r} z e = record { all = λ w f R t y. go y (j .all (E (found y)) (D (found y)) (found y .C) (train-of y)) }
+      alone {r} z e = record { all = λ w f R t y. go y (j .all (E (found y)) (D (found y)) (found y .C) (tail-of y)) }
         where
           go : {w : List ℕ} {f : FrameRecord} {R : Frame} {t : Term} (y : Held w f s n R t) → PartnerIs n m (found y .C) b → Sought s n p R t r
           go {R = R} y (nobody q v) = no-couple {y = no-partner} e (removal-here R (found y .way) (v remove (found y .K))) (whole-here R (found y .way) (v fill (found y .K)))
-          go y (somebody q w) = let T = train-of y in absurd (omega (arith, lies-end (train-lies (T .lies) w), T .inside))
+          go y (somebody q w) = let T = tail-of y in absurd (omega (arith, lies-end (tail-lies (T .lies) w), T .inside))
 
       module _ (z : b ≡ n → ⊥) where
-        partner : {w : List ℕ} {f : FrameRecord} {R : Frame} {t : Term} (y : Held w f s n R t) → (q : ℕ) × (k : ℕ) × (U : Term) × (B : Term) × (b ≡ m + q) × Train (found y .C) q 0 k (abs U B)
-        partner y = go (j .all (E (found y)) (D (found y)) (found y .C) (train-of y))
+        partner : {w : List ℕ} {f : FrameRecord} {R : Frame} {t : Term} (y : Held w f s n R t) → (q : ℕ) × (k : ℕ) × (U : Term) × (B : Term) × (b ≡ m + q) × Tail (found y .C) q 0 k (abs U B)
+        partner y = go (j .all (E (found y)) (D (found y)) (found y .C) (tail-of y))
           where
-            go : {C : Term} → PartnerIs n m C b → (q : ℕ) × (k : ℕ) × (U : Term) × (B : Term) × (b ≡ m + q) × Train C q 0 k (abs U B)
+            go : {C : Term} → PartnerIs n m C b → (q : ℕ) × (k : ℕ) × (U : Term) × (B : Term) × (b ≡ m + q) × Tail C q 0 k (abs U B)
             go (nobody q v) = absurd (z q)
             go (somebody {q = q} {j = k} {U = U} {B = B} r w) = (q, k, U, B, r, w)
 
         pub partner-inside : b < n
-        partner-inside = let T = train-of here in let o = partner here in omega (arith, lies-end (train-lies (T .lies) (o .5)), T .inside)
+        partner-inside = let T = tail-of here in let o = partner here in omega (arith, lies-end (tail-lies (T .lies) (o .5)), T .inside)
 
         module _ {q : ℕ} (k : Ending s n (b + 1) (h + 1) q) {e : ℕ} (l : Ending s n q h e) {c d : ℕ} (c-is : c ≡ depthOf (getD s p 0)) (d-is : d ≡ depthOf (getD s b 0)) where
           coupled : {w : List ℕ} {f : FrameRecord} {R : Frame} {t : Term} (y : Held w f s n R t) → CoupleAt s n p R t (found-at c d m b q e)

@@ -1,7 +1,7 @@
 -- The laws of this crate.
 -- Assumes nothing.
 pub mod Lowering
-pub mod Trains
+pub mod Tails
 pub mod Couples
 pub mod Removing
 pub mod Filling

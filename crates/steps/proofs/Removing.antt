@@ -29,7 +29,7 @@ use Rattle.steps.specs.Lowering.{loweredLetter, usesOf, InScope}
 use Rattle.steps.specs.Couples.{InSomeBody, instead, SomeCouple, remaining, CoupleAt, Searches}
 use Rattle.steps.specs.declared.Couple.{Couple}
 use Rattle.steps.proofs.Lowering.{lowered-lies, uses-none, uses-some, lower-size, lower-scope}
-use Rattle.steps.proofs.Trains.{partner-along, train-scope, instead-size, instead-scope, instead-letters}
+use Rattle.steps.proofs.Tails.{partner-along, tail-scope, instead-size, instead-scope, instead-letters}
 use Rattle.steps.proofs.Couples.{removal-here, couple-of-body, some-couple, places, in-scope}
 use Rattle.steps.proofs.Writing.{later-letters, behind-gap}
 
@@ -68,9 +68,9 @@ module _ {W : List ℕ} {f : FrameRecord} {s : List ℕ} {n p : ℕ} {R : Frame}
   abbrev H : ℕ
   H = heightAt 0 (o .way)
 
-  removes : {v : Option Term} → lower 0 (o .B) ≡ v → step R (record { kind = 2; place = p }) t ≡ mapOutcome (put (o .way)) (mapOutcome (instead (o .train)) (unused v))
+  removes : {v : Option Term} → lower 0 (o .B) ≡ v → step R (record { kind = 2; place = p }) t ≡ mapOutcome (put (o .way)) (mapOutcome (instead (o .tail)) (unused v))
   unfolding stepHere atPartner remove
-  removes r = removal-here R (o .way) (partner-along remove (o .K) (o .train) ∙ ap (λ v. mapOutcome (instead (o .train)) (unused v)) r)
+  removes r = removal-here R (o .way) (partner-along remove (o .K) (o .tail) ∙ ap (λ v. mapOutcome (instead (o .tail)) (unused v)) r)
 
   few : suc (x .depth) + scope (o .B) < 1022
   few = omega (arith, o .lies .rest-few)
@@ -80,8 +80,8 @@ module _ {W : List ℕ} {f : FrameRecord} {s : List ℕ} {n p : ℕ} {R : Frame}
   still-uses r = removes (uses-some (o .lies .rest) few r)
 
   -- the letters of the form
-  form-letters : (L : Term) → remaining s x ++ letters (x .depth) H L ≡ letters (depthAt 0 (o .way)) H (instead (o .train) L)
-  form-letters L = rw (o .deep, o .lies .inner, ← o .between) (sym (instead-letters (x .outer) H (o .train) L))
+  form-letters : (L : Term) → remaining s x ++ letters (x .depth) H L ≡ letters (depthAt 0 (o .way)) H (instead (o .tail) L)
+  form-letters L = rw (o .deep, o .lies .inner, ← o .between) (sym (instead-letters (x .outer) H (o .tail) L))
 
   abbrev at : ℕ
   at = p + (x .abstractor - x .between)
@@ -98,13 +98,13 @@ module _ {W : List ℕ} {f : FrameRecord} {s : List ℕ} {n p : ℕ} {R : Frame}
         go : (L : Term) × (lower 0 (o .B) ≡ some L) → SteppedAs W f s₃ R (record { kind = 2; place = p }) t (Length (n - (x .rest - at)))
         go (L, r) =
             let l = o .lies in
-            let z : step R (record { kind = 2; place = p }) t ≡ reached (put (o .way) (instead (o .train) L)) = removes r in
+            let z : step R (record { kind = 2; place = p }) t ≡ reached (put (o .way) (instead (o .tail) L)) = removes r in
             let sizes : size L ≡ x .end - x .rest = lower-size 0 (o .B) L r ∙ omega (arith, l .rest .place) in
             let same : part s₁ (x .rest) (x .end) ≡ part s (x .rest) (x .end) = rw (later-letters g c (x .rest) (omega (arith, places g))) refl in
-            let whole-size = instead-size (o .train) L in
-            let whole-scope = instead-scope (o .train) L in
-            let old-scope = train-scope (o .train) in
-            step-reached z (put-held y (o .way) (instead (o .train) L) {m = n - (x .rest - at)} (closedness .step-closed (record { kind = 2; place = p }) (y .closed-frame) (y .closed) z)
+            let whole-size = instead-size (o .tail) L in
+            let whole-scope = instead-scope (o .tail) L in
+            let old-scope = tail-scope (o .tail) in
+            step-reached z (put-held y (o .way) (instead (o .tail) L) {m = n - (x .rest - at)} (closedness .step-closed (record { kind = 2; place = p }) (y .closed-frame) (y .closed) z)
             (omega (arith, lower-scope 0 (o .B) L r, o .few, o .deep)) (omega (arith, most))
             (omega (arith, sizes, l .rest .place, l .place, o .inside, o .ends, places g)) (o .ends)
             (subst (Spliced s s₃ n p (x .end)) (form-letters L) (behind-gap g c

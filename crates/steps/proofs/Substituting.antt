@@ -31,7 +31,7 @@ use Rattle.bodies.proofs.Places.{too-long, too-deep, put-held}
 use Rattle.steps.specs.Couples.{InBodyAfter, instead, SomeCouple, remaining, CoupleAt, Searches}
 use Rattle.steps.specs.Filling.{filling, deepestUse, Rewritable}
 use Rattle.steps.specs.declared.Couple.{Couple}
-use Rattle.steps.proofs.Trains.{partner-along, instead-size, instead-scope, instead-letters}
+use Rattle.steps.proofs.Tails.{partner-along, instead-size, instead-scope, instead-letters}
 use Rattle.steps.proofs.Couples.{whole-here, bounds, couple-of-body, some-couple, couple-inside, places}
 use Rattle.steps.proofs.Filling.{filled-rest, rest-most, rest-least}
 use Rattle.steps.proofs.Writing.{DepthIs}
@@ -45,14 +45,14 @@ module _ {W : List ℕ} {f : FrameRecord} {s : List ℕ} {n p : ℕ} {R : Frame}
   result = substitute 0 J (o .B)
 
   abbrev form : Term
-  form = instead (o .train) result
+  form = instead (o .tail) result
 
   abbrev H : ℕ
   H = heightAt 0 (o .way)
 
   reaches : step R (record { kind = 3; place = p }) t ≡ reached (put (o .way) form)
   unfolding stepHere atPartner fill mapOutcome
-  reaches = whole-here R (o .way) (partner-along fill (o .K) (o .train))
+  reaches = whole-here R (o .way) (partner-along fill (o .K) (o .tail))
 
   few : suc (x .depth) + scope (o .B) < 1022
   few = omega (arith, o .lies .rest-few)
@@ -63,7 +63,7 @@ module _ {W : List ℕ} {f : FrameRecord} {s : List ℕ} {n p : ℕ} {R : Frame}
       (filled-rest (x .outer) (o .j) (suc H) (l .argument .coded) (omega (arith, l .argument-few)) H (l .rest .coded) (omega (arith, l .rest-few, l .inner)))
 
   form-is : remaining s x ++ filling s p x ≡ letters (depthAt 0 (o .way)) H form
-  form-is = ap (remaining s x ++_) filling-is ∙ rw (o .deep, o .lies .inner, ← o .between) (sym (instead-letters (x .outer) H (o .train) result))
+  form-is = ap (remaining s x ++_) filling-is ∙ rw (o .deep, o .lies .inner, ← o .between) (sym (instead-letters (x .outer) H (o .tail) result))
 
   module _ {r : ℕ} (q : r ≡ length (filling s p x)) where
     length-is : r ≡ size result
@@ -71,7 +71,7 @@ module _ {W : List ℕ} {f : FrameRecord} {s : List ℕ} {n p : ℕ} {R : Frame}
 
     sizes : (x .end - p ≡ size (app (o .K) (o .C))) × (x .end - x .rest ≡ size (o .B)) × (size form + (x .rest - x .abstractor) + (x .end - x .rest) ≡ size (o .C) + r)
     unfolding size
-    sizes = (omega (arith, o .ends), omega (arith, o .lies .rest .place), omega (arith, instead-size (o .train) result, length-is, o .lies .place, o .lies .rest .place))
+    sizes = (omega (arith, o .ends), omega (arith, o .lies .rest .place), omega (arith, instead-size (o .tail) result, length-is, o .lies .place, o .lies .rest .place))
 
     -- what the form has besides the rest
     kept-is : (n - (x .end - p) + (x .abstractor - x .between)) + r + size (app (o .K) (o .C)) ≡ n + size form
@@ -92,7 +92,7 @@ module _ {W : List ℕ} {f : FrameRecord} {s : List ℕ} {n p : ℕ} {R : Frame}
             depth-here,
             o .deep,
             o .lies .inner,
-            instead-scope (o .train) result,
+            instead-scope (o .tail) result,
             scope-lift (o .j) 0 (o .K),
             o .lies .argument-few,
             rest-least (x .depth) J H (o .lies .rest .coded) few (omega (arith, depth-here, scope-lift (o .j) 0 (o .K), o .lies .argument-few)),
@@ -106,7 +106,7 @@ module _ {W : List ℕ} {f : FrameRecord} {s : List ℕ} {n p : ℕ} {R : Frame}
               o .deep,
               l .inner,
               o .few,
-              instead-scope (o .train) result,
+              instead-scope (o .tail) result,
               l .rest-few,
               rest-most (x .depth) J H (mostAbstractors - depth R - x .depth) (l .rest .coded) few (omega (arith, l .rest-few)) (omega (arith, depth-here, l .rest-few)),
             )

@@ -28,44 +28,44 @@ pub record InBodyAfter (len : ℕ) (s : List ℕ) (n p : ℕ) : Type 0 where
 
 -- ---- A train, and what stands behind some of its wagons.
 -- D stands at place q of the train C, behind wagons of which n applicators are not yet matched and j are abstractors.
-pub data Train : Term → (q n j : ℕ) → Term → Type 0 where
-  at-start : {C : Term} → Train C 0 0 0 C
-  past-applicator : {C L B : Term} {q n j : ℕ} → Train C q n j (app L B) → Train C (q + suc (size L)) (suc n) j B
-  past-abstractor : {C U B : Term} {q n j : ℕ} → Train C q (suc n) j (abs U B) → Train C (q + suc (size U)) n (suc j) B
+pub data Tail : Term → (q n j : ℕ) → Term → Type 0 where
+  at-start : {C : Term} → Tail C 0 0 0 C
+  past-applicator : {C L B : Term} {q n j : ℕ} → Tail C q n j (app L B) → Tail C (q + suc (size L)) (suc n) j B
+  past-abstractor : {C U B : Term} {q n j : ℕ} → Tail C q (suc n) j (abs U B) → Tail C (q + suc (size U)) n (suc j) B
 
 -- The train with X in the place of D; the letters of the wagons before D, where the train has depth d and height h.
-unfoldable pub instead : {C D : Term} {q n j : ℕ} → Train C q n j D → Term → Term
+unfoldable pub instead : {C D : Term} {q n j : ℕ} → Tail C q n j D → Term → Term
 instead at-start X = X
 instead (past-applicator {L = L} w) X = instead w (app L X)
 instead (past-abstractor {U = U} w) X = instead w (abs U X)
 
-unfoldable pub wagons : {C D : Term} {q n j : ℕ} → ℕ → ℕ → Train C q n j D → List ℕ
-wagons d h at-start = []
-wagons d h (past-applicator {L = L} {j = j} w) = wagons d h w ++ (letter applicator (d + j) h ∷ letters (d + j) (suc h) L)
-wagons d h (past-abstractor {U = U} {j = j} w) = wagons d h w ++ (letter abstractor (d + j) h ∷ letters (d + j) (suc h) U)
+unfoldable pub passed : {C D : Term} {q n j : ℕ} → ℕ → ℕ → Tail C q n j D → List ℕ
+passed d h at-start = []
+passed d h (past-applicator {L = L} {j = j} w) = passed d h w ++ (letter applicator (d + j) h ∷ letters (d + j) (suc h) L)
+passed d h (past-abstractor {U = U} {j = j} w) = passed d h w ++ (letter abstractor (d + j) h ∷ letters (d + j) (suc h) U)
 
 -- A train C of height h lies in s from m on.
-pub record TrainLies (s : List ℕ) (n m h e c : ℕ) (C : Term) : Type 0 where
+pub record TailLies (s : List ℕ) (n m h e c : ℕ) (C : Term) : Type 0 where
   pub lies : Lies s m e c h C
   pub few : c + scope C ≤ mostAbstractors
   pub inside : e ≤ n
 
-pub record SomeTrain (s : List ℕ) (n m h : ℕ) : Type 0 where
+pub record SomeTail (s : List ℕ) (n m h : ℕ) : Type 0 where
   pub array : length s ≡ longestTerm
   pub most : n ≤ longestTerm
   pub low : h ≤ m
   pub e : ℕ
   pub c : ℕ
   pub C : Term
-  pub train : TrainLies s n m h e c C
+  pub tail : TailLies s n m h e c C
 
 -- The abstractor that matches an applicator before it, or n.
 pub data PartnerIs (n m : ℕ) (C : Term) : ℕ → Type 0 where
   nobody : {a : ℕ} → a ≡ n → ((f : Term → Term → Outcome) (K : Term) → atPartner couples f K C 0 ≡ refused no-partner) → PartnerIs n m C a
-  somebody : {a q j : ℕ} {U B : Term} → a ≡ m + q → Train C q 0 j (abs U B) → PartnerIs n m C a
+  somebody : {a q j : ℕ} {U B : Term} → a ≡ m + q → Tail C q 0 j (abs U B) → PartnerIs n m C a
 
 pub record Partnered (s : List ℕ) (n m h r : ℕ) : Type 0 where
-  pub all : (e c : ℕ) (C : Term) → TrainLies s n m h e c C → PartnerIs n m C r
+  pub all : (e c : ℕ) (C : Term) → TailLies s n m h e c C → PartnerIs n m C r
 
 -- ---- The couple.
 -- ⟨K⟩..[U]B lies from p on where x says, with j abstractors between and d entries of a frame before the body; its first letter has height h.
@@ -102,10 +102,10 @@ pub record CoupleAt (s : List ℕ) (n p : ℕ) (R : Frame) (t : Term) (x : Coupl
   pub q : ℕ
   pub j : ℕ
   pub way : Way t p (app K C)
-  pub train : Train C q 0 j (abs U B)
+  pub tail : Tail C q 0 j (abs U B)
   pub deep : depthAt 0 way ≡ x .outer
   pub lies : CoupleLies s p (heightAt 0 way) (depth R) x j K U B
-  pub between : wagons (x .outer) (heightAt 0 way) train ≡ remaining s x
+  pub between : passed (x .outer) (heightAt 0 way) tail ≡ remaining s x
   pub few : depth R + (x .outer + scope C) ≤ mostAbstractors
   pub ends : x .end ≡ p + size (app K C)
   pub inside : x .end ≤ n

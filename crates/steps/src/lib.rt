@@ -10,7 +10,7 @@ ghost use Rattle.parts.specs.Parts.{part, Copied};
 ghost use Rattle.bodies.specs.Held.{SomeHeld, Steps};
 ghost use Rattle.bodies.specs.Moving.{Mapped, TermLiftable, Lifts, Spliced};
 ghost use Rattle.steps.specs.Lowering.{loweredLetter, useOf, InScope};
-ghost use Rattle.steps.specs.Couples.{InSomeBody, InBodyAfter, SomeTrain, Partnered, remaining, Searches};
+ghost use Rattle.steps.specs.Couples.{InSomeBody, InBodyAfter, SomeTail, Partnered, remaining, Searches};
 ghost use Rattle.steps.specs.Filling.{useDepth, UsesAre, filling, LetterFillable, LetterFills, Fillable, Fills, Rewritable};
 use bodies::Form;
 use bodies::NO_PARTNER;
@@ -66,7 +66,7 @@ fn no_couple(reason: u32) -> Couple
 // The place of the abstractor that matches an applicator of height h, where the train goes on at m behind its K; n if there is none. Of the
 // applicators passed, `unmatched` are still to be matched.
 fn abstractor_after(s: &Letters, n: usize, m: usize, h: usize) -> usize
-    requires { ⌜ SomeTrain (now s) n m h ⌝ }
+    requires { ⌜ SomeTail (now s) n m h ⌝ }
     ensures { λ r. ⌜ Partnered (now (s .entry)) n m h r ⌝ }
 {
     let mut unmatched: usize = 0;

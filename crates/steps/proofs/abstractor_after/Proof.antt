@@ -1,4 +1,4 @@
--- `steps::abstractor_after` meets its contract: the loop is `Passing` of Trains.antt.
+-- `steps::abstractor_after` meets its contract: the loop is `Passing` of Tails.antt.
 -- Assumes nothing.
 use Prim.Native.Nat.{_-_}
 use mathlib.Core.Path.{_≡_}
@@ -6,7 +6,7 @@ use mathlib.Core.Logic.{inl, inr, ⊎-elim}
 use native.Mathlib.Omega.{arith}
 use lib.ListN.{getD}
 use Rattle.letters.specs.Letters.{symbolOf}
-use Rattle.steps.proofs.Trains.{Passing, passing-start, passing-bounds, passed-all, passed-partner, pass-wagon}
+use Rattle.steps.proofs.Tails.{Passing, passing-start, passing-bounds, passed-all, passed-partner, pass-item}
 use borrow.Author.Needs.{needs}
 use Rattle.steps.proofs.abstractor_after.Statement.{statement}
 use Rattle.steps.proofs.abstractor_after.Tie as tie
@@ -48,7 +48,7 @@ mul-symbol-of-2 : tie.Need-mul-symbol-of-2 Inv-loop μ-loop
 mul-symbol-of-2 c = let w = c .before .before .before .loop .inv in let g = c .before .before .before .before .before .before .pre in omega (
   arith,
   passing-bounds g (w .0),
-  passing-bounds g (pass-wagon g (w .0) (w .1) (c .before .before .loop-test .taken)
+  passing-bounds g (pass-item g (w .0) (w .1) (c .before .before .loop-test .taken)
       (⊎-elim (λ j. inl (j .0 .taken, j .1)) (λ j. inr (j .0 .left, j .1 .left, j .2)) (c .before .if1 .came)) (c .end-of .ensures)),
 )
 
@@ -56,7 +56,7 @@ element-copy-out-symbol-of-2 : tie.Need-element-copy-out-symbol-of-2 Inv-loop μ
 element-copy-out-symbol-of-2 c = let w = c .before .before .before .loop .inv in let g = c .before .before .before .before .before .before .pre in omega (
   arith,
   passing-bounds g (w .0),
-  passing-bounds g (pass-wagon g (w .0) (w .1) (c .before .before .loop-test .taken)
+  passing-bounds g (pass-item g (w .0) (w .1) (c .before .before .loop-test .taken)
       (⊎-elim (λ j. inl (j .0 .taken, j .1)) (λ j. inr (j .0 .left, j .1 .left, j .2)) (c .before .if1 .came)) (c .end-of .ensures)),
 )
 
@@ -65,7 +65,7 @@ loop-less c = omega (arith, passing-bounds (c .before .before .before .before .b
 
 loop-again : tie.Need-loop-again Inv-loop μ-loop
 loop-again c = let w = c .before .before .before .before .before .loop .inv in
-    (pass-wagon (c .before .before .before .before .before .before .before .before .pre) (w .0) (w .1) (c .before .before .before .before .loop-test .taken) (⊎-elim (λ j. inl (j .0 .taken, j .1)) (λ j. inr (j .0 .left, j .1 .left, j .2)) (c .before .before .before .if1 .came)) (c .before .before .end-of .ensures), c .symbol-of2 .ensures .0)
+    (pass-item (c .before .before .before .before .before .before .before .before .pre) (w .0) (w .1) (c .before .before .before .before .loop-test .taken) (⊎-elim (λ j. inl (j .0 .taken, j .1)) (λ j. inr (j .0 .left, j .1 .left, j .2)) (c .before .before .before .if1 .came)) (c .before .before .end-of .ensures), c .symbol-of2 .ensures .0)
 
 returns-2 : tie.Need-returns-2 Inv-loop μ-loop
 returns-2 c = let w = c .before .loop .inv in passed-all (c .before .before .before .before .pre) (w .0) (w .1) (omega (arith, c .loop-test .left))

@@ -2,7 +2,7 @@
 -- Assumes nothing.
 use native.Mathlib.Omega.{arith}
 use mathlib.Core.Path.{sym, _∙_}
-use Rattle.steps.proofs.Couples.{bounds, wrong, some-train, alone, partner-inside, couple-found}
+use Rattle.steps.proofs.Couples.{bounds, wrong, some-tail, alone, partner-inside, couple-found}
 use borrow.Author.Needs.{needs}
 use Rattle.steps.proofs.couple_at.Statement.{statement}
 use Rattle.steps.proofs.couple_at.Tie as tie
@@ -20,7 +20,7 @@ end-of-requires : tie.Need-end-of-requires
 end-of-requires c κs = bounds (c .before .before .before .before .pre)
 
 abstractor-after-requires : tie.Need-abstractor-after-requires
-abstractor-after-requires c κs = some-train (c .before .before .before .before .before .pre) (sym (c .before .before .before .symbol-of .ensures .0) ∙ c .before .before .if1 .left) (c .before .height-of .ensures .0) (c .end-of .ensures)
+abstractor-after-requires c κs = some-tail (c .before .before .before .before .before .pre) (sym (c .before .before .before .symbol-of .ensures .0) ∙ c .before .before .if1 .left) (c .before .height-of .ensures .0) (c .end-of .ensures)
 
 returns-2 : tie.Need-returns-2
 returns-2 c = alone (c .before .before .before .before .before .before .before .before .pre) (sym (c .before .before .before .before .before .before .symbol-of .ensures .0) ∙ c .before .before .before .before .before .if1 .left) (c .before .before .before .before .height-of .ensures .0) (c .before .before .before .end-of .ensures) (c .before .before .abstractor-after .ensures) (c .before .if2 .taken) (c .no-couple2 .ensures)
