@@ -6,8 +6,8 @@
  * Any bytes and numbers may be handed in, and every call returns. No call relies on an earlier one and none keeps anything, so
  * several threads may call at once. The input is never changed.
  *
- * In every answer, answer[0] is the number, 0 if accepted. Where bytes are handed in, answer[1] is the place, 0 if accepted. At
- * a refusal the buffer keeps every byte; after a result it keeps every byte past it.
+ * In every answer but that to a set, answer[0] is the number, 0 if accepted. Where bytes are handed in, the place follows, 0 if
+ * accepted. At a refusal the buffer keeps every byte; after a result it keeps every byte past it.
  */
 #ifndef BIJTERNE_H
 #define BIJTERNE_H
@@ -25,7 +25,7 @@ enum bijterne_number {
     BIJTERNE_CUT_SHORT = 1,           /* a field ends too early, or the file is empty; the field's head, in the file */
     BIJTERNE_WRONG_FIELD = 2,         /* not the tag that is due, or steps not a multiple of 3 bytes; as for 1 */
     BIJTERNE_NOT_ONE_TERM = 3,        /* not exactly one term; the first byte past it, or the length, in the term */
-    BIJTERNE_TOO_LONG = 4,            /* a file over 65,535 bytes or a term over 4,096; 0 */
+    BIJTERNE_TOO_LONG = 4,            /* a file or set over 65,535 bytes or a term over 4,096; 0 */
     BIJTERNE_BEYOND_SCOPE = 5,        /* an index beyond its scope; the variable, in the term */
     BIJTERNE_TOO_MANY_IN_SCOPE = 6,   /* over 253 abstractors in scope; the first ff too many, in the term */
     BIJTERNE_NO_TYPE = 7,             /* K has no type; the applicator, in the term */
@@ -36,7 +36,8 @@ enum bijterne_number {
     BIJTERNE_BODIES_DIFFER = 12,      /* the applicator, in the term */
     BIJTERNE_GROUPS_LEFT = 13,        /* the head of the first unused group, in the file */
     BIJTERNE_BUFFER_TOO_SHORT = 14,   /* the result is longer than the buffer; 0 */
-    BIJTERNE_TOO_LONG_TO_COUNT = 15   /* a length over 7; no place */
+    BIJTERNE_TOO_LONG_TO_COUNT = 15,  /* a length over 7; no place */
+    BIJTERNE_NOT_A_SET = 16           /* a set with no file, a field cut short or another tag; the field's head, in the set */
 };
 
 /* Examines a bare term: numbers 3 to 6. answer: number, place, degree (0 if refused). */
@@ -76,6 +77,15 @@ void bijterne_count_strings(size_t length, uint64_t answer[4]);
 /* Checks a file: numbers 1 to 13. answer: number, place, comparisons completed, degree of the term (0 for numbers 1 to 6).
  * The deepest term needs 3 MiB of stack, and even a small file some 190 KiB; the other calls need less than 48 KiB. */
 void bijterne_check(const uint8_t *s, size_t n, uint64_t answer[4]);
+
+/* The longest set, heads included. */
+#define BIJTERNE_LONGEST_SET 65535
+
+/* Checks a set: one or more fields, each with tag 5, two bytes for its length (high byte first), and a file. First the set's own
+ * refusals, 4 (over 65,535 bytes) and 16, with 0 in answer[0], answer[3] and answer[4]; then the files one after the other, up to
+ * the first that is refused: numbers 1 to 13. answer: the refused file's number, from 0, and the four numbers of bijterne_check for
+ * it; or, if all are accepted, how many files, 0, 0, the comparisons in all files, 0. It needs the stack of bijterne_check. */
+void bijterne_check_set(const uint8_t *s, size_t n, uint64_t answer[5]);
 
 #ifdef __cplusplus
 }

@@ -4,7 +4,7 @@
 //! refusal a lent buffer keeps every byte; after a result it keeps every byte past it.
 
 use std::sync::mpsc::{sync_channel, Receiver, SyncSender};
-use std::thread;
+use std::{slice, thread};
 
 mod raw {
     extern "C" {
@@ -15,6 +15,7 @@ mod raw {
         pub fn bijterne_print_term(s: *const u8, n: usize, out: *mut u8, m: usize, answer: *mut [u64; 3]);
         pub fn bijterne_count_strings(length: usize, answer: *mut [u64; 4]);
         pub fn bijterne_check(s: *const u8, n: usize, answer: *mut [u64; 4]);
+        pub fn bijterne_check_set(s: *const u8, n: usize, answer: *mut [u64; 5]);
     }
 }
 
@@ -36,6 +37,7 @@ pub mod number {
     pub const GROUPS_LEFT: u32 = 13;
     pub const BUFFER_TOO_SHORT: u32 = 14;
     pub const TOO_LONG_TO_COUNT: u32 = 15;
+    pub const NOT_A_SET: u32 = 16;
 }
 
 #[derive(Clone, Copy, Debug, PartialEq, Eq)]
@@ -83,11 +85,29 @@ pub struct CheckAnswer {
     pub degree: usize,
 }
 
-/// The stack that a check needs, whatever the file.
+/// Of `check_set`. The set's own refusals are `TOO_LONG` and `NOT_A_SET`, with 0 for the file, the comparisons and the degree; any
+/// other is that of the first file that is refused.
+#[derive(Clone, Copy, Debug, PartialEq, Eq)]
+pub struct SetAnswer {
+    /// How many files, if all are accepted; else the refused file's number, from 0.
+    pub file: usize,
+    pub number: u32,
+    /// As `check` gives it for the refused file; where the set is refused with `NOT_A_SET`, the head of the field in the set.
+    pub place: usize,
+    /// Completed: in all files if they are accepted, else in the refused one.
+    pub comparisons: usize,
+    /// Of the refused file's term, as `check` gives it; 0 if all are accepted.
+    pub degree: usize,
+}
+
+/// The stack that a check needs, whatever the file or set.
 pub const CHECK_STACK_BYTES: usize = 4 << 20;
 
 /// No page is longer: a buffer of this length is always enough for `print_term`.
 pub const LONGEST_PAGE: usize = 16644;
+
+/// The longest set, heads included. A field's head is 3 bytes.
+pub const LONGEST_SET: usize = 65535;
 
 /// The longest strings that `count_strings` counts.
 pub const LONGEST_COUNTED: usize = 7;
@@ -156,11 +176,27 @@ pub fn count_strings(length: usize) -> CountAnswer {
 ///
 /// If no thread can be started.
 pub fn check(file: &[u8]) -> CheckAnswer {
+    on_own_stack(|| {
+        // SAFETY: this thread's stack is as large as any check needs.
+        unsafe { check_here(file) }
+    })
+}
+
+/// Checks a set: fields with tag 5, each holding a file. All its files are accepted, or the first that is refused is named. On a
+/// thread of its own, as `check`.
+///
+/// # Panics
+///
+/// If no thread can be started.
+pub fn check_set(set: &[u8]) -> SetAnswer {
+    on_own_stack(|| {
+        // SAFETY: as above.
+        unsafe { check_set_here(set) }
+    })
+}
+
+fn on_own_stack<A: Send>(work: impl FnOnce() -> A + Send) -> A {
     thread::scope(|scope| {
-        let work = || {
-            // SAFETY: this thread's stack is as large as any check needs.
-            unsafe { check_here(file) }
-        };
         let thread = thread::Builder::new().stack_size(CHECK_STACK_BYTES).spawn_scoped(scope, work);
         thread.expect("a thread can be started").join().expect("a check returns")
     })
@@ -177,51 +213,96 @@ pub unsafe fn check_here(file: &[u8]) -> CheckAnswer {
     CheckAnswer { number: a[0] as u32, place: a[1] as usize, comparisons: a[2] as usize, degree: a[3] as usize }
 }
 
-/// Checks files one after the other, on a thread of its own that lives as long as the `Checker`.
+/// Checks a set on the caller's stack.
+///
+/// # Safety
+///
+/// As for `check_here`, for the deepest of its terms.
+pub unsafe fn check_set_here(set: &[u8]) -> SetAnswer {
+    let mut a = [0; 5];
+    raw::bijterne_check_set(set.as_ptr(), set.len(), &mut a);
+    SetAnswer {
+        file: a[0] as usize,
+        number: a[1] as u32,
+        place: a[2] as usize,
+        comparisons: a[3] as usize,
+        degree: a[4] as usize,
+    }
+}
+
+/// Checks files and sets one after the other, on a thread of its own that lives as long as the `Checker`.
 pub struct Checker {
     /// None once it is dropped, which ends the thread.
-    files: Option<SyncSender<Lent>>,
-    answers: Receiver<CheckAnswer>,
+    calls: Option<SyncSender<Call>>,
+    answers: Receiver<Answer>,
     thread: Option<thread::JoinHandle<()>>,
 }
 
-/// A file that its owner keeps until the answer has come.
-struct Lent(*const u8, usize);
+/// A file or a set that its owner keeps until the answer has come.
+enum Call {
+    File(*const u8, usize),
+    Set(*const u8, usize),
+}
 
-// SAFETY: `Checker::check` holds the file borrowed while the thread reads it, and nobody writes it.
-unsafe impl Send for Lent {}
+// SAFETY: `Checker` holds the bytes borrowed while the thread reads them, and nobody writes them.
+unsafe impl Send for Call {}
+
+enum Answer {
+    File(CheckAnswer),
+    Set(SetAnswer),
+}
 
 impl Checker {
     /// # Errors
     ///
     /// If no thread can be started.
     pub fn new() -> std::io::Result<Checker> {
-        let (files, lent) = sync_channel::<Lent>(1);
+        let (call, calls) = sync_channel(1);
         let (answer, answers) = sync_channel(1);
         let work = move || {
-            for Lent(bytes, length) in lent {
-                // SAFETY: `check` waits for the answer with the file borrowed; this thread's stack is as large as any check needs.
-                let given = unsafe { check_here(std::slice::from_raw_parts(bytes, length)) };
+            for call in calls {
+                // SAFETY: who asks waits for the answer with the bytes borrowed; this thread's stack is as large as any check needs.
+                let given = unsafe {
+                    match call {
+                        Call::File(bytes, length) => Answer::File(check_here(slice::from_raw_parts(bytes, length))),
+                        Call::Set(bytes, length) => Answer::Set(check_set_here(slice::from_raw_parts(bytes, length))),
+                    }
+                };
                 if answer.send(given).is_err() {
                     return;
                 }
             }
         };
         let thread = thread::Builder::new().stack_size(CHECK_STACK_BYTES).spawn(work)?;
-        Ok(Checker { files: Some(files), answers, thread: Some(thread) })
+        Ok(Checker { calls: Some(call), answers, thread: Some(thread) })
     }
 
     /// Checks a file. The answers are those of `check`.
     pub fn check(&mut self, file: &[u8]) -> CheckAnswer {
-        let files = self.files.as_ref().expect("a Checker has its thread until it is dropped");
-        files.send(Lent(file.as_ptr(), file.len())).expect("the thread takes files until it is told that none comes");
+        match self.ask(Call::File(file.as_ptr(), file.len())) {
+            Answer::File(answer) => answer,
+            Answer::Set(_) => unreachable!("a file is answered as a file"),
+        }
+    }
+
+    /// Checks a set. The answers are those of `check_set`.
+    pub fn check_set(&mut self, set: &[u8]) -> SetAnswer {
+        match self.ask(Call::Set(set.as_ptr(), set.len())) {
+            Answer::Set(answer) => answer,
+            Answer::File(_) => unreachable!("a set is answered as a set"),
+        }
+    }
+
+    fn ask(&mut self, call: Call) -> Answer {
+        let calls = self.calls.as_ref().expect("a Checker has its thread until it is dropped");
+        calls.send(call).expect("the thread takes calls until it is told that none comes");
         self.answers.recv().expect("a check returns")
     }
 }
 
 impl Drop for Checker {
     fn drop(&mut self) {
-        self.files = None;
+        self.calls = None;
         if let Some(thread) = self.thread.take() {
             // A check does not panic, and a panic here could not be answered.
             let _ended = thread.join();

@@ -17,7 +17,7 @@ wrongField = 2
 abbrev pub notOneTerm : ℕ
 notOneTerm = 3
 
--- file over 65,535 or term over 4,096 bytes
+-- file or set over 65,535 or term over 4,096 bytes
 abbrev pub tooLong : ℕ
 tooLong = 4
 
@@ -64,6 +64,10 @@ bufferTooShort = 14
 -- length over 7, of strings to be counted (request (c))
 abbrev pub tooLongToCount : ℕ
 tooLongToCount = 15
+
+-- of a set: no file, a field cut short, or a tag other than 5 (request (e))
+abbrev pub notASet : ℕ
+notASet = 16
 
 -- of what stops no check
 abbrev pub never : ℕ

@@ -46,5 +46,7 @@ pub const BUFFER_TOO_SHORT: u32 = 14;
 
 pub const TOO_LONG_TO_COUNT: u32 = 15;
 
+pub const NOT_A_SET: u32 = 16;
+
 // Proved never to be an answer.
 pub const NEVER: u32 = 255;

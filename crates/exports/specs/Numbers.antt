@@ -9,6 +9,7 @@ use Rattle.files.specs.File.{FileAnswer}
 use Rattle.files.specs.Check.{CheckAnswer}
 use Rattle.calls.specs.Answers.{Written, nothing, answer}
 use Rattle.counting.specs.declared.CountAnswer.{CountAnswer}
+use Rattle.sets.specs.declared.SetAnswer.{SetAnswer}
 
 abbrev pub termNumbers : TermAnswer → List ℕ
 termNumbers a = a .number ∷ a .place ∷ a .degree ∷ []
@@ -22,6 +23,9 @@ checkNumbers a = a .number ∷ a .place ∷ a .comparisons ∷ a .degree ∷ []
 
 abbrev pub countNumbers : CountAnswer → List ℕ
 countNumbers a = a .number ∷ a .accepted ∷ a .malformed ∷ a .unbound ∷ []
+
+abbrev pub setNumbers : SetAnswer → List ℕ
+setNumbers a = a .file ∷ a .number ∷ a .place ∷ a .comparisons ∷ a .degree ∷ []
 
 -- 1 for 'none'.
 abbrev pub noneOf : Written → ℕ

@@ -7,7 +7,8 @@ ghost use Rattle.files.specs.Check.{checkFile};
 ghost use Rattle.calls.specs.Answers.{typeAnswer, stepAnswer};
 ghost use Rattle.printing.specs.Page.{printAnswer};
 ghost use Rattle.counting.specs.Counts.{countAnswer};
-ghost use Rattle.exports.specs.Numbers.{termNumbers, fileNumbers, checkNumbers, countNumbers, noneOf, Given};
+ghost use Rattle.sets.specs.Sets.{checkSet};
+ghost use Rattle.exports.specs.Numbers.{termNumbers, fileNumbers, checkNumbers, countNumbers, setNumbers, noneOf, Given};
 
 // Number, place, degree.
 #[no_mangle]
@@ -102,6 +103,26 @@ pub extern "C" fn bijterne_check(s: &[u8], answer: &mut [u64; 4])
     let comparisons = a.comparisons;
     let degree = a.degree;
     *answer = [
+        number as u64,
+        place as u64,
+        comparisons as u64,
+        degree as u64,
+    ];
+}
+
+// The refused file's number, from 0, with its own number, place, comparisons and degree; or how many files, 0, 0, the comparisons in all, 0.
+#[no_mangle]
+pub extern "C" fn bijterne_check_set(s: &[u8], answer: &mut [u64; 5])
+    ensures { λ r. ⌜ now (answer .exit) ≡ setNumbers (checkSet (now (s .entry))) ⌝ }
+{
+    let a = sets::check_set(s);
+    let file = a.file;
+    let number = a.number;
+    let place = a.place;
+    let comparisons = a.comparisons;
+    let degree = a.degree;
+    *answer = [
+        file as u64,
         number as u64,
         place as u64,
         comparisons as u64,

@@ -9,14 +9,15 @@ use lib.ListN.{length, length-take, length-drop}
 use lib.Dec.{leb, ltb}
 use borrow.Author.Tests.{leb-true, ltb-false}
 use Rattle.fields.specs.declared.Field.{Field}
-use Rattle.fields.specs.declared.Field.the-variants.{End}
+use Rattle.fields.specs.declared.Field.the-variants.{Fault, End}
 use Rattle.fields.specs.declared.Layout.{Layout}
 use Rattle.fields.specs.Fields.{bodyEnd, readStep, stepsFrom, readSteps, GroupAt, spanAt, groupAt}
 use Rattle.code.specs.Limits.{longestFile}
-use Rattle.fields.specs.Fields.{Fields, refused, accepted, thenFields, groupThen, groupsFrom, readFile, layoutOf, termBytes}
+use Rattle.fields.specs.Fields.{groupEnd, Sequence, broken, sequence, firstThen, groupsFrom, Fields, refused, accepted, thenFields, withGroups, readFile, layoutOf, termBytes}
 use Rattle.fields.specs.Fields.{Whole, GroupHere, Groups, done, more, StepRange, First, GroupParts}
 use Rattle.fields.specs.Claims.{HasFields, AcceptedLayout}
-use Rattle.fields.proofs.Laws.{FieldView, fault, whole, field-view, GroupView, GroupEnded, group-view, here-ends, whole-ends, groups-done, groups-next, term-end}
+use Rattle.fields.proofs.Laws.{FieldView, fault, whole, field-view, GroupView, GroupEnded, group-view, group-ended, here-ends, whole-ends, Found, groups-found, groups-are, term-end}
+use Rattle.fields.proofs.Laws as found
 
 pub none-left : {s : List ℕ} {at : ℕ} {gs : List GroupAt} → Groups s at gs → length s ≤ at → gs ≡ []
 none-left (done q) h = refl
@@ -58,25 +59,24 @@ span-of s at g =
     }
 
 -- What the groups from a place on leave: a refusal, or groups that stand there.
-data GroupsView (s : List ℕ) (e at : ℕ) : Fields → Type 0 where
-  bad : {n p : ℕ} → (1 ≤ n) × (n ≤ 4) → GroupsView s e at (refused n p)
-  good : {gs : List GroupAt} → Groups s at gs → GroupsView s e at (accepted e gs)
+data GroupsView (s : List ℕ) (at : ℕ) : Sequence GroupAt → Type 0 where
+  bad : {n p : ℕ} → (1 ≤ n) × (n ≤ 4) → GroupsView s at (broken n p)
+  good : {gs : List GroupAt} → Groups s at gs → GroupsView s at (sequence gs)
 
-with-group : {s : List ℕ} {e at m : ℕ} {F : Fields} → GroupEnded s at m → GroupsView s e m F → GroupsView s e at (groupThen (groupAt s at) F)
-unfolding groupThen
+with-group : {s : List ℕ} {at m : ℕ} {q : Sequence GroupAt} → GroupEnded s at m → GroupsView s m q → GroupsView s at (firstThen (groupAt s at) q)
+unfolding firstThen
 with-group g (bad h) = bad h
 with-group {s = s} g (good {gs = gs} r) = good (more (g .here) (subst (λ (k : ℕ). Groups s k gs) (g .is-next) r))
 
-groups-view : (k : ℕ) (s : List ℕ) (e at : ℕ) → length s ≤ k + at → at ≤ length s → GroupsView s e at (groupsFrom k s e at)
-unfolding groupsFrom thenFields
-groups-view zero s e at h i = good (done {at = at} (omega arith))
-groups-view (suc k) s e at h i = go (leb (length s) at) refl (group-view s at) (λ m l j. groups-view k s e m (omega arith) j)
-  where
-    go : (b : Bool) → leb (length s) at ≡ b → {f : Field} → GroupView s at f → ((m : ℕ) → at + 6 ≤ m → m ≤ length s → GroupsView s e m (groupsFrom k s e m))
-        → GroupsView s e at (cond b (accepted e []) (thenFields f (λ m. groupThen (groupAt s at) (groupsFrom k s e m))))
-    go true q v ih = good (done {at = at} (omega (arith, leb-true (length s) at q)))
-    go false q (fault n) ih = bad n
-    go false q (whole {e = m} g) ih = with-group g (ih m (g .longer) (g .inside))
+view-fault : {s : List ℕ} {at n p : ℕ} → GroupView s at (Fault n p) → (1 ≤ n) × (n ≤ 4)
+view-fault (fault h) = h
+
+groups-view : {s : List ℕ} {at : ℕ} {q : Sequence GroupAt} → at ≤ length s → Found (groupEnd s) (groupAt s) (length s) at q → GroupsView s at q
+groups-view {at = at} i (found.done h) = good (done {at = at} (omega arith))
+groups-view {s = s} {at = at} i (found.stop h e) = bad (view-fault (subst (GroupView s at) e (group-view s at)))
+groups-view {s = s} {at = at} i (found.more {m = m} h e f q) =
+    let g = group-ended s at e in
+    rw q (with-group g (groups-view (g .inside) f))
 
 -- The same of a file.
 data FileView (s : List ℕ) : Fields → Type 0 where
@@ -84,29 +84,29 @@ data FileView (s : List ℕ) : Fields → Type 0 where
   good : {e : ℕ} {gs : List GroupAt} → HasFields s e gs → FileView s (accepted e gs)
 
 file-view : (s : List ℕ) → FileView s (readFile s)
-unfolding readFile thenFields
+unfolding readFile thenFields withGroups
 file-view s = go (ltb longestFile (length s)) refl (field-view 1 1 s 0)
   where
-    after : {e : ℕ} → length s ≤ longestFile → e ≡ bodyEnd s 0 → Whole 1 1 s 0 → {F : Fields} → GroupsView s e e F → FileView s F
-    after l q w (bad h) = bad h
-    after l q w (good r) = good (record { fits = l; term = w; ends = q; groups = r })
+    after : {e : ℕ} → length s ≤ longestFile → e ≡ bodyEnd s 0 → Whole 1 1 s 0 → {q : Sequence GroupAt} → GroupsView s e q → FileView s (withGroups e q)
+    after l r w (bad h) = bad h
+    after l r w (good g) = good (record { fits = l; term = w; ends = r; groups = g })
 
     go : (b : Bool) → ltb longestFile (length s) ≡ b → {f : Field} → FieldView 1 1 s 0 f
-        → FileView s (cond b (refused 4 0) (thenFields f (λ e. groupsFrom (length s) s e e)))
+        → FileView s (cond b (refused 4 0) (thenFields f (λ e. withGroups e (groupsFrom s e))))
     go true q v = bad {n = 4} (omega arith)
     go false q (fault h) = bad h
-    go false q (whole {e = e} r w) = after (ltb-false longestFile (length s) q) r w (groups-view (length s) s e e (omega arith) (omega (arith, w .body)))
+    go false q (whole {e = e} r w) = after (ltb-false longestFile (length s) q) r w (groups-view (omega (arith, w .body)) (groups-found s e))
 
 -- All the groups that stand are read.
-groups-read : {s : List ℕ} {e at : ℕ} {gs : List GroupAt} (k : ℕ) → length s ≤ k + at → Groups s at gs → groupsFrom k s e at ≡ accepted e gs
-unfolding groupThen
-groups-read k h (done q) = groups-done _ _ k _ (omega arith)
-groups-read {s = s} {e = e} {at = at} k h (more {gs = gs} g r) =
-    groups-next s e k at h (omega (arith, g .left .head)) (here-ends s at g) ∙ ap (groupThen (groupAt s at)) (groups-read k (omega arith) r)
+groups-stand : {s : List ℕ} {at : ℕ} {gs : List GroupAt} → Groups s at gs → Found (groupEnd s) (groupAt s) (length s) at (sequence gs)
+unfolding firstThen
+groups-stand {at = at} (done q) = found.done {at = at} (omega arith)
+groups-stand {s = s} {at = at} (more g r) = found.more {at = at} (omega (arith, g .left .head)) (here-ends s at g) (groups-stand r) refl
 
 pub accepts : {s : List ℕ} {e : ℕ} {gs : List GroupAt} → HasFields s e gs → readFile s ≡ accepted e gs
+unfolding withGroups
 accepts {s = s} {e = e} a =
-    term-end s (a .fits) (whole-ends 1 1 s 0 (a .term) ∙ ap End (sym (a .ends))) ∙ groups-read (length s) (omega arith) (a .groups)
+    term-end s (a .fits) (whole-ends 1 1 s 0 (a .term) ∙ ap End (sym (a .ends))) ∙ ap (withGroups e) (groups-are s (groups-stand (a .groups)))
 
 view-accepted : {s : List ℕ} {e : ℕ} {gs : List GroupAt} → FileView s (accepted e gs) → HasFields s e gs
 view-accepted (good a) = a

@@ -7,12 +7,12 @@ use mathlib.Core.List.{List, []}
 use native.Mathlib.Omega.{arith}
 use lib.ListN.{length, getD}
 use lib.Dec.{leb, ltb, eqb}
-use borrow.Author.Tests.{ltb-false, eqb-true, lt-ltb, le-ltb, le-leb, lt-leb, eq-eqb, ne-eqb}
+use borrow.Author.Tests.{leb-true, leb-false, ltb-false, eqb-true, lt-ltb, le-ltb, le-leb, lt-leb, eq-eqb, ne-eqb}
 use Rattle.fields.specs.declared.Field.{Field}
 use Rattle.fields.specs.declared.Field.the-variants.{Fault, End}
-use Rattle.fields.specs.Fields.{readFile, word, bodyEnd, fieldAt, thenField, groupEnd, GroupAt, spanAt, groupAt, Fields, refused, accepted}
+use Rattle.fields.specs.Fields.{readFile, word, bodyEnd, fieldAt, thenField, groupEnd, GroupAt, spanAt, groupAt, refused}
 use Rattle.code.specs.Limits.{longestFile}
-use Rattle.fields.specs.Fields.{thenFields, groupThen, groupsFrom, layoutWith, Whole, GroupHere}
+use Rattle.fields.specs.Fields.{Sequence, broken, sequence, firstThen, thenSequence, sequenceFrom, groupsFrom, thenFields, withGroups, layoutWith, Whole, GroupHere}
 
 -- One field.
 module _ (tag unit : ℕ) (s : List ℕ) (at : ℕ) where
@@ -109,48 +109,50 @@ pub left-end : {m : ℕ} (s : List ℕ) (at : ℕ) → fieldAt 2 3 s at ≡ End 
 unfolding groupEnd thenField
 left-end s at q = rw q
 
--- All groups from a place on. With a k of the bytes left, one more changes nothing.
-module _ (s : List ℕ) (e : ℕ) where
-  pub groups-done : (k : ℕ) (at : ℕ) → length s ≤ at → groupsFrom k s e at ≡ accepted e []
-  unfolding groupsFrom
-  groups-done zero at h = refl
-  groups-done (suc k) at h = simp (le-leb _ _ h)
+-- What stands one after the other, without the bound k: what is found from a place on.
+module _ {A : Type 0} (end : ℕ → Field) (read : ℕ → A) (n : ℕ) where
+  pub data Found : ℕ → Sequence A → Type 0 where
+    done : {at : ℕ} → n ≤ at → Found at (sequence [])
+    stop : {at m p : ℕ} → at < n → end at ≡ Fault m p → Found at (broken m p)
+    more : {at m : ℕ} {q r : Sequence A} → at < n → end at ≡ End m → Found m q → r ≡ firstThen (read at) q → Found at r
 
-  after : (k at : ℕ) → ((m : ℕ) → at + 6 ≤ m → groupsFrom k s e m ≡ groupsFrom (suc k) s e m)
-      → thenFields (groupEnd s at) (λ m. groupThen (groupAt s at) (groupsFrom k s e m)) ≡ thenFields (groupEnd s at) (λ m. groupThen (groupAt s at) (groupsFrom (suc k) s e m))
-  unfolding thenFields
-  after k at same = go (group-view s at)
-    where
-      go : {f : Field} → GroupView s at f
-          → thenFields f (λ m. groupThen (groupAt s at) (groupsFrom k s e m)) ≡ thenFields f (λ m. groupThen (groupAt s at) (groupsFrom (suc k) s e m))
-      go (fault h) = refl
-      go (whole {e = m} g) = ap (groupThen (groupAt s at)) (same m (g .longer))
+  module _ (longer : (at m : ℕ) → end at ≡ End m → at < m) where
+    pub found : (k at : ℕ) → n ≤ k + at → Found at (sequenceFrom end read k n at)
+    unfolding sequenceFrom thenSequence
+    found zero at h = done {at = at} (omega arith)
+    found (suc k) at h = go (leb n at) refl (end at) refl (λ m l. found k m (omega arith))
+      where
+        go : (b : Bool) → leb n at ≡ b → (f : Field) → end at ≡ f → ((m : ℕ) → at < m → Found m (sequenceFrom end read k n m))
+            → Found at (cond b (sequence []) (thenSequence f (λ m. firstThen (read at) (sequenceFrom end read k n m))))
+        go true q f e ih = done {at = at} (leb-true n at q)
+        go false q (Fault i p) e ih = stop {at = at} (leb-false n at q) e
+        go false q (End m) e ih = more {at = at} (leb-false n at q) e (ih m (longer at m e)) refl
 
-  one-more : (k at : ℕ) → length s ≤ k + at → groupsFrom k s e at ≡ groupsFrom (suc k) s e at
-  unfolding groupsFrom
-  one-more zero at h = sym (groups-done 1 at (omega arith))
-  one-more (suc k) at h = ap (cond (leb (length s) at) (accepted e [])) (after k at (λ m l. one-more k m (omega arith)))
+    pub found-only : {at : ℕ} {q : Sequence A} (k : ℕ) → n ≤ k + at → Found at q → sequenceFrom end read k n at ≡ q
+    unfolding sequenceFrom thenSequence
+    found-only zero h (done l) = refl
+    found-only (suc k) h (done l) = rw (le-leb _ _ l)
+    found-only zero h (stop l e) = absurd (omega arith)
+    found-only (suc k) h (stop l e) = rw (lt-leb _ _ l, e)
+    found-only zero h (more l e f q) = absurd (omega arith)
+    found-only (suc k) h (more {at = at} {m = m} l e f q) = rw (lt-leb _ _ l, e) (ap (firstThen (read at)) (found-only k (omega (arith, longer at m e)) f) ∙ sym q)
 
-  pub groups-step : (k at : ℕ) → length s ≤ k + at → at < length s
-      → groupsFrom k s e at ≡ thenFields (groupEnd s at) (λ m. groupThen (groupAt s at) (groupsFrom k s e m))
-  unfolding groupsFrom
-  groups-step zero at h l = absurd (omega arith)
-  groups-step (suc k) at h l = rw (lt-leb _ _ l) (after k at (λ m i. one-more k m (omega arith)))
+-- The groups of a file.
+group-longer : (s : List ℕ) (at m : ℕ) → groupEnd s at ≡ End m → at < m
+group-longer s at m e = omega (arith, group-ended s at e .longer)
 
-  pub groups-fault : {n p : ℕ} (k at : ℕ) → length s ≤ k + at → at < length s → groupEnd s at ≡ Fault n p → groupsFrom k s e at ≡ refused n p
-  unfolding thenFields
-  groups-fault k at h l q = groups-step k at h l ∙ rw q
+module _ (s : List ℕ) where
+  pub groups-found : (at : ℕ) → Found (groupEnd s) (groupAt s) (length s) at (groupsFrom s at)
+  groups-found at = found (groupEnd s) (groupAt s) (length s) (group-longer s) (length s) at (omega arith)
 
-  pub groups-next : {m : ℕ} (k at : ℕ) → length s ≤ k + at → at < length s → groupEnd s at ≡ End m
-      → groupsFrom k s e at ≡ groupThen (groupAt s at) (groupsFrom k s e m)
-  unfolding thenFields
-  groups-next k at h l q = groups-step k at h l ∙ rw q
+  pub groups-are : {at : ℕ} {q : Sequence GroupAt} → Found (groupEnd s) (groupAt s) (length s) at q → groupsFrom s at ≡ q
+  groups-are f = found-only (groupEnd s) (groupAt s) (length s) (group-longer s) (length s) (omega arith) f
 
 -- A group more in the list, or counted before.
-pub layout-group : (n : ℕ) (g : GroupAt) (F : Fields) → layoutWith n (groupThen g F) ≡ layoutWith (n + 1) F
-unfolding groupThen
-layout-group n g (refused k p) = refl
-layout-group n g (accepted e gs) = let q : n + suc (length gs) ≡ n + 1 + length gs = omega arith in rw q
+pub layout-group : (n e : ℕ) (g : GroupAt) (q : Sequence GroupAt) → layoutWith n (withGroups e (firstThen g q)) ≡ layoutWith (n + 1) (withGroups e q)
+unfolding withGroups firstThen
+layout-group n e g (broken k p) = refl
+layout-group n e g (sequence gs) = let q : n + suc (length gs) ≡ n + 1 + length gs = omega arith in rw q
 
 -- The file.
 pub too-long : (s : List ℕ) → longestFile < length s → readFile s ≡ refused 4 0
@@ -161,6 +163,6 @@ pub term-fault : {n p : ℕ} (s : List ℕ) → length s ≤ longestFile → fie
 unfolding readFile thenFields
 term-fault s h q = rw (le-ltb _ _ h, q)
 
-pub term-end : {e : ℕ} (s : List ℕ) → length s ≤ longestFile → fieldAt 1 1 s 0 ≡ End e → readFile s ≡ groupsFrom (length s) s e e
+pub term-end : {e : ℕ} (s : List ℕ) → length s ≤ longestFile → fieldAt 1 1 s 0 ≡ End e → readFile s ≡ withGroups e (groupsFrom s e)
 unfolding readFile thenFields
 term-end s h q = rw (le-ltb _ _ h, q)

@@ -18,8 +18,8 @@ use Rattle.fields.specs.Claims.{HasFields}
 use Rattle.fields.proofs.Groups.{accepts, accepted-only}
 
 -- What s holds from a place on.
-record From (s : List ℕ) (at : ℕ) (w : List ℕ) : Type 0 where
-  is : drop at s ≡ w
+pub record From (s : List ℕ) (at : ℕ) (w : List ℕ) : Type 0 where
+  pub is : drop at s ≡ w
 
 peek : {s w : List ℕ} {at : ℕ} (n : ℕ) → From s at w → getD s (at + n) 0 ≡ getD w n 0
 peek {s = s} {at = at} n h = sym (getD-drop at s n 0) ∙ ap (λ (l : List ℕ). getD l n 0) (h .is)
@@ -40,13 +40,13 @@ triple n {s = s} {at = at} h =
     record { byte = rw add-zero at (peek 0 h); number = omega (arith, peek 1 h, rw (← q) at (peek 2 h)); rest = record { is = skip 3 h } }
 
 -- A field.
-record Written (tag : ℕ) (b w s : List ℕ) (at : ℕ) : Type 0 where
-  whole : (unit : ℕ) → length b % unit ≡ 0 → Whole tag unit s at
-  ends : bodyEnd s at ≡ at + 3 + length b
-  body : From s (at + 3) (b ++ w)
-  rest : From s (bodyEnd s at) w
+pub record Written (tag : ℕ) (b w s : List ℕ) (at : ℕ) : Type 0 where
+  pub whole : (unit : ℕ) → length b % unit ≡ 0 → Whole tag unit s at
+  pub ends : bodyEnd s at ≡ at + 3 + length b
+  pub body : From s (at + 3) (b ++ w)
+  pub rest : From s (bodyEnd s at) w
 
-written : {tag : ℕ} (b w : List ℕ) {s : List ℕ} {at : ℕ} → From s at (tag ∷ length b / 256 ∷ length b % 256 ∷ (b ++ w)) → Written tag b w s at
+pub written : {tag : ℕ} (b w : List ℕ) {s : List ℕ} {at : ℕ} → From s at (tag ∷ length b / 256 ∷ length b % 256 ∷ (b ++ w)) → Written tag b w s at
 written b w {s = s} {at = at} h =
     let t = triple (length b) h in
     let l : length s - at ≡ suc (suc (suc (length b + length w)))
@@ -140,7 +140,7 @@ module _ (s : List ℕ) (small : InBytes s) where
       let q : 3 * suc n ≡ suc (suc (suc (3 * n))) = omega arith in
       rw (q, three-bytes at (omega arith)) (ap (λ (l : List ℕ). getD s at 0 ∷ word s (at + 1) / 256 ∷ word s (at + 1) % 256 ∷ l) (steps-only n (at + 3) (omega arith)))
 
-  field-only : {tag unit at : ℕ} (b : List ℕ) → Whole tag unit s at → take (word s (at + 1)) (drop (at + 3) s) ≡ b
+  pub field-only : {tag unit at : ℕ} (b : List ℕ) → Whole tag unit s at → take (word s (at + 1)) (drop (at + 3) s) ≡ b
       → drop at s ≡ writeField tag b ++ drop (bodyEnd s at) s
   field-only {at = at} b w q =
       let n = word s (at + 1) in

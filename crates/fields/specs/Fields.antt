@@ -72,6 +72,30 @@ groupIn s g = record { left = readSteps s (g .left) (g .middle); right = readSte
 abbrev pub groupAt : List ℕ → ℕ → GroupAt
 groupAt s at = record { head = at; group = groupIn s (spanAt s at) }
 
+-- What stands one after the other: the number and place of a refusal, or all of it in order.
+pub data Sequence (A : Type 0) : Type 0 where
+  broken : (number place : ℕ) → Sequence A
+  sequence : List A → Sequence A
+
+unfoldable pub firstThen : {A : Type 0} → A → Sequence A → Sequence A
+firstThen a (broken n p) = broken n p
+firstThen a (sequence l) = sequence (a ∷ l)
+
+unfoldable pub thenSequence : {A : Type 0} → Field → (ℕ → Sequence A) → Sequence A
+thenSequence (Fault n p) f = broken n p
+thenSequence (End e) f = f e
+
+-- What stands from a place on up to the end n, where `end` tests what is at a place and `read` reads it. k bounds how much there is: the
+-- number of the bytes left is enough.
+unfoldable pub sequenceFrom : {A : Type 0} → (end : ℕ → Field) → (read : ℕ → A) → (k n at : ℕ) → Sequence A
+sequenceFrom end read zero n at = sequence []
+sequenceFrom end read (suc k) n at =
+    cond (leb n at) (sequence []) (thenSequence (end at) (λ m. firstThen (read at) (sequenceFrom end read k n m)))
+
+-- The groups from a place on.
+abbrev pub groupsFrom : List ℕ → ℕ → Sequence GroupAt
+groupsFrom s at = sequenceFrom (groupEnd s) (groupAt s) (length s) (length s) at
+
 -- What the fields of a file give: a refusal's number and place, or the end of the term's body, which starts at 3, and the groups.
 pub data Fields : Type 0 where
   refused : (number place : ℕ) → Fields
@@ -81,20 +105,15 @@ unfoldable pub thenFields : Field → (ℕ → Fields) → Fields
 thenFields (Fault n p) f = refused n p
 thenFields (End e) f = f e
 
-unfoldable pub groupThen : GroupAt → Fields → Fields
-groupThen g (refused n p) = refused n p
-groupThen g (accepted e gs) = accepted e (g ∷ gs)
-
--- The groups from a place on, where the term's body ends at e. k bounds their number: that of the bytes left is enough.
-unfoldable pub groupsFrom : ℕ → List ℕ → ℕ → ℕ → Fields
-groupsFrom zero s e at = accepted e []
-groupsFrom (suc k) s e at =
-    cond (leb (length s) at) (accepted e []) (thenFields (groupEnd s at) (λ m. groupThen (groupAt s at) (groupsFrom k s e m)))
+-- The groups after the term, whose body ends at e.
+unfoldable pub withGroups : ℕ → Sequence GroupAt → Fields
+withGroups e (broken n p) = refused n p
+withGroups e (sequence gs) = accepted e gs
 
 -- The file: its length, the term's field, the groups.
 unfoldable pub readFile : List ℕ → Fields
-unfolding word fieldAt thenField groupEnd stepsFrom thenFields groupThen groupsFrom
-readFile s = cond (ltb longestFile (length s)) (refused tooLong 0) (thenFields (fieldAt 1 1 s 0) (λ e. groupsFrom (length s) s e e))
+unfolding word fieldAt thenField groupEnd stepsFrom firstThen thenSequence sequenceFrom thenFields withGroups
+readFile s = cond (ltb longestFile (length s)) (refused tooLong 0) (thenFields (fieldAt 1 1 s 0) (λ e. withGroups e (groupsFrom s e)))
 
 -- The same in numbers: number and place, the end of the term's body (0 where refused), and how many groups, n and those that follow.
 abbrev pub layoutWith : ℕ → Fields → Layout
@@ -103,6 +122,10 @@ layoutWith n (accepted e gs) = record { number = refusals.accepted; place = 0; e
 
 abbrev pub layoutOf : Fields → Layout
 layoutOf = layoutWith 0
+
+-- The body of the field at a place.
+abbrev pub bodyAt : List ℕ → ℕ → List ℕ
+bodyAt s at = take (word s (at + 1)) (drop (at + 3) s)
 
 -- The bytes of the term in a file whose term's body ends at e.
 abbrev pub termBytes : List ℕ → ℕ → List ℕ

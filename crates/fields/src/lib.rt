@@ -2,7 +2,7 @@
 ghost use mathlib.Core.Path.{_≡_};
 ghost use Prim.Native.Nat.{_+_, _≤_, _<_};
 ghost use lib.ListN.{length};
-ghost use Rattle.fields.specs.Fields.{word, fieldAt, groupEnd, groupsFrom, readFile, refused, layoutOf, readStep, termBytes, GroupHere, GroupParts};
+ghost use Rattle.fields.specs.Fields.{word, fieldAt, groupEnd, groupsFrom, withGroups, readFile, refused, layoutOf, readStep, bodyEnd, bodyAt, termBytes, GroupHere, GroupParts};
 ghost use Rattle.fields.specs.Claims.{Reading, Writing};
 ghost use Rattle.fields.specs.Examples.{Examples};
 use code::numbers::ACCEPTED;
@@ -56,7 +56,7 @@ fn word_at(s: &[u8], at: usize) -> usize
 }
 
 // The field at a place, where tag is due and its body is a multiple of unit bytes.
-fn read_field(s: &[u8], at: usize, tag: u8, unit: usize) -> Field
+pub fn read_field(s: &[u8], at: usize, tag: u8, unit: usize) -> Field
     requires { ⌜ (at ≤ length (now s)) × (0 < unit) ⌝ }
     ensures { λ r. ⌜ r ≡ fieldAt tag unit (now (s .entry)) at ⌝ }
 {
@@ -104,7 +104,7 @@ fn refusal(number: u32, place: usize) -> Layout
 // The groups from the end of the term's body on.
 fn read_groups(s: &[u8], end: usize) -> Layout
     requires { ⌜ end ≤ length (now s) ⌝ }
-    ensures { λ r. ⌜ r ≡ layoutOf (groupsFrom (length (now (s .entry))) (now (s .entry)) end end) ⌝ }
+    ensures { λ r. ⌜ r ≡ layoutOf (withGroups end (groupsFrom (now (s .entry)) end)) ⌝ }
 {
     let mut at = end;
     let mut groups: usize = 0;
@@ -165,6 +165,15 @@ pub fn step_at(s: &[u8], at: usize) -> StepBytes
         kind: s[at],
         place: word_at(s, at + 1),
     }
+}
+
+// The body of the field at a place.
+pub fn body_at(s: &[u8], at: usize) -> &[u8]
+    requires { ⌜ bodyEnd (now s) at ≤ length (now s) ⌝ }
+    ensures { λ r. ⌜ now r ≡ bodyAt (now (s .entry)) at ⌝ }
+{
+    let n = word_at(s, at + 1);
+    &s[at + 3..at + 3 + n]
 }
 
 // The bytes of the term, a part of the file: none where the end is that of a refused file, 0.

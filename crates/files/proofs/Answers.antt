@@ -79,7 +79,7 @@ opens s t e gs q = go (readFile s) refl q
           term-is = ap (λ (k : ℕ). examined (termBytes s k)) (sym (r .1)) ∙ r .0;
         }
 
-bytes-take : (n : ℕ) (s : List ℕ) → Bytes s → Bytes (lib.ListN.take n s)
+pub bytes-take : (n : ℕ) (s : List ℕ) → Bytes s → Bytes (lib.ListN.take n s)
 bytes-take zero s b i = omega arith
 bytes-take (suc n) [] b i = omega arith
 bytes-take (suc n) (x ∷ s) b zero = b 0

@@ -1,6 +1,6 @@
-// The programs. `bijterne` and `page` read standard input and answer for the whole of it or not at all; `counts` reads nothing. If the
-// input could not be read or the answer not written, a line on standard error says why, and the exit status is 2. Reading stops with the
-// buffer full: an input of over 65,535 bytes is refused for that, however it goes on.
+// The programs. `bijterne`, `page` and `shelf` read standard input and answer for the whole of it or not at all; `counts` reads nothing. If
+// the input could not be read or the answer not written, a line on standard error says why, and the exit status is 2. Reading stops with
+// the buffer full: an input of over 65,535 bytes is refused for that, however it goes on.
 ghost use mathlib.Core.Path.{_≡_};
 ghost use Prim.Native.Nat.{_≤_};
 ghost use lib.ListN.{length};
@@ -8,6 +8,18 @@ ghost use Rattle.io.specs.Counts.{Counts};
 use code::numbers::ACCEPTED;
 use counting::LONGEST_COUNTED;
 use printing::LONGEST_PAGE;
+use streams::Input;
+
+// Reads standard input, and says why if that failed.
+fn get(buffer: &mut [u8], failure: &[u8]) -> Input
+    ensures { λ r. ⌜ Counts (r .length) (now (buffer .exit)) × (length (now (buffer .exit)) ≡ length (now (buffer .entry))) ⌝ }
+{
+    let input = streams::read_input(buffer);
+    if input.failed {
+        os::fail(failure);
+    }
+    input
+}
 
 // Writes an answer to standard output: the exit status, 2 if it could not be written.
 fn put(answer: &[u8], failure: &[u8]) -> i32 {
@@ -18,36 +30,61 @@ fn put(answer: &[u8], failure: &[u8]) -> i32 {
     2
 }
 
-// `bijterne`: checks a file and writes number, place, comparisons and degree in decimal, one space between, then a line feed. The exit
-// status is 0 if that was written, whatever it says.
+// Puts number, place, comparisons and degree into a line, in decimal, one space between, then a line feed: where they end.
+fn add_answer(
+    line: &mut [u8],
+    at: usize,
+    number: u32,
+    place: usize,
+    comparisons: usize,
+    degree: usize,
+) -> usize
+    requires { ⌜ at ≤ length (now line) ⌝ }
+    ensures { λ r. ⌜ Counts r (now (line .exit)) × (length (now (line .exit)) ≡ length (now (line .entry))) ⌝ }
+{
+    let after_number = streams::add_number(line, at, number as u64, b' ');
+    let after_place = streams::add_number(line, after_number, place as u64, b' ');
+    let after_comparisons = streams::add_number(line, after_place, comparisons as u64, b' ');
+    streams::add_number(line, after_comparisons, degree as u64, b'\n')
+}
+
+// `bijterne`: checks a file and writes the four numbers of its answer. The exit status is 0 if they were written, whatever they say.
 #[no_mangle]
 pub extern "C" fn bijterne_run() -> i32 {
     let mut buffer = io::large_buffer();
-    let input = streams::read_input(&mut buffer);
+    let input = get(&mut buffer, b"bijterne: standard input");
     if input.failed {
-        os::fail(b"bijterne: standard input");
         return 2;
     }
     let n = input.length;
-    put_answer(checker::check(&buffer[..n]))
+    let a = checker::check(&buffer[..n]);
+    let mut line = io::buffer();
+    let end = add_answer(&mut line, 0, a.number, a.place, a.comparisons, a.degree);
+    put(&line[..end], b"bijterne: standard output")
 }
 
-fn put_answer(a: checker::CheckAnswer) -> i32 {
+// `shelf`: checks a set and writes the five numbers of its answer. The exit status is as for `bijterne`.
+#[no_mangle]
+pub extern "C" fn shelf_run() -> i32 {
+    let mut buffer = io::large_buffer();
+    let input = get(&mut buffer, b"shelf: standard input");
+    if input.failed {
+        return 2;
+    }
+    let n = input.length;
+    let a = sets::check_set(&buffer[..n]);
     let mut line = io::buffer();
-    let number = streams::add_number(&mut line, 0, a.number as u64, b' ');
-    let place = streams::add_number(&mut line, number, a.place as u64, b' ');
-    let comparisons = streams::add_number(&mut line, place, a.comparisons as u64, b' ');
-    let end = streams::add_number(&mut line, comparisons, a.degree as u64, b'\n');
-    put(&line[..end], b"bijterne: standard output")
+    let file = streams::add_number(&mut line, 0, a.file as u64, b' ');
+    let end = add_answer(&mut line, file, a.number, a.place, a.comparisons, a.degree);
+    put(&line[..end], b"shelf: standard output")
 }
 
 // `page`: writes the page of a bare term. At a refusal it writes number and place to standard error, and the exit status is 1.
 #[no_mangle]
 pub extern "C" fn page_run() -> i32 {
     let mut buffer = io::large_buffer();
-    let input = streams::read_input(&mut buffer);
+    let input = get(&mut buffer, b"page: standard input");
     if input.failed {
-        os::fail(b"page: standard input");
         return 2;
     }
     let n = input.length;

@@ -2,18 +2,18 @@
 -- Assumes nothing.
 use native.Mathlib.Nat.{add-zero}
 use native.Mathlib.Omega.{arith}
-use mathlib.Core.Path.{_≡_, sym, ap, _∙_}
+use mathlib.Core.Path.{_≡_, refl, sym, ap, _∙_}
 use borrow.Author.Needs.{needs}
 use Prim.Native.Nat.{_-_, _≤_}
 use lib.ListN.{length}
-use Rattle.fields.proofs.Laws.{group-ended, groups-done, groups-fault, groups-next, layout-group}
-use Rattle.fields.specs.Fields.{layoutWith, layoutOf, groupsFrom}
+use Rattle.fields.proofs.Laws.{group-ended, done, stop, more, groups-found, groups-are, layout-group}
+use Rattle.fields.specs.Fields.{GroupAt, Sequence, groupsFrom, withGroups, layoutWith, layoutOf}
 use Rattle.fields.proofs.read_groups.Statement.{statement}
 use Rattle.fields.proofs.read_groups.Tie as tie
 
 abbrev Inv-loop : tie.InvT-loop
 Inv-loop s end at₀ groups₀ at groups =
-    (at ≤ length s) × (groups ≤ at) × (layoutWith groups (groupsFrom (length s) s end at) ≡ layoutOf (groupsFrom (length s) s end end))
+    (at ≤ length s) × (groups ≤ at) × (layoutWith groups (withGroups end (groupsFrom s at)) ≡ layoutOf (withGroups end (groupsFrom s end)))
 
 abbrev μ-loop : tie.MeasureT-loop
 μ-loop s end at₀ groups₀ at groups = length s - at
@@ -31,11 +31,12 @@ refusal-requires : tie.Need-refusal-requires Inv-loop μ-loop
 refusal-requires c κs = search needs
 
 returns : tie.Need-returns Inv-loop μ-loop
+unfolding withGroups
 returns c =
     let l = c .before .before .before .before .before .before .loop in
     let q = sym (c .before .before .before .before .read-group .ensures) ∙ c .before .before .found .given .1 in
     c .refusal .ensures
-    ∙ ap (layoutWith (l .groups)) (sym (groups-fault _ _ _ _ (omega arith) (c .before .before .before .before .before .loop-test .taken) q))
+    ∙ ap (λ (g : Sequence GroupAt). layoutWith (l .groups) (withGroups (c .before .before .before .before .before .before .before .before .args .end) g)) (sym (groups-are _ (stop {at = l .at} (c .before .before .before .before .before .loop-test .taken) q)))
     ∙ l .inv .2
 
 enum-known-found-2 : tie.Need-enum-known-found-2 Inv-loop μ-loop
@@ -54,12 +55,14 @@ loop-again c =
     let g = group-ended _ _ q in (
       g .inside,
       omega arith,
-      sym (layout-group (l .groups) _ _) ∙ ap (layoutWith (l .groups)) (sym (groups-next _ _ _ _ (omega arith) (c .before .before .before .before .loop-test .taken) q))
+      sym (layout-group (l .groups) _ _ _)
+          ∙ ap (λ (g : Sequence GroupAt). layoutWith (l .groups) (withGroups (c .before .before .before .before .before .before .before .args .end) g)) (sym (groups-are _ (more {at = l .at} (c .before .before .before .before .loop-test .taken) q (groups-found _ _) refl)))
           ∙ l .inv .2,
     )
 
 returns-2 : tie.Need-returns-2 Inv-loop μ-loop
-returns-2 c = rw (groups-done _ _ _ _ (c .loop-test .left), add-zero) at (c .before .loop .inv .2)
+unfolding withGroups
+returns-2 c = rw (groups-are _ (done {at = c .before .loop .at} (c .loop-test .left)), add-zero) at (c .before .loop .inv .2)
 
 pub read-groups-spec : {M : Type 1} → statement M
 read-groups-spec =

@@ -11,17 +11,14 @@ use Rattle.program.proofs.page_run.Tie as tie
 large-buffer-requires : tie.Need-large-buffer-requires
 large-buffer-requires c κs = search needs
 
-slice-aggregate-read-input : tie.Need-slice-aggregate-read-input
-slice-aggregate-read-input c = search needs
+slice-aggregate-get : tie.Need-slice-aggregate-get
+slice-aggregate-get c = search needs
 
-read-input-requires : tie.Need-read-input-requires
-read-input-requires c κs = search needs
+slice-aggregate-get-2 : tie.Need-slice-aggregate-get-2
+slice-aggregate-get-2 c = search needs
 
-slice-aggregate-fail : tie.Need-slice-aggregate-fail
-slice-aggregate-fail c = search needs
-
-fail-requires : tie.Need-fail-requires
-fail-requires c κs = search needs
+get-requires : tie.Need-get-requires
+get-requires c κs = search needs
 
 returns : tie.Need-returns
 returns c = search needs
@@ -64,10 +61,9 @@ page-run-spec =
     tie.close
     (tie.spec
     large-buffer-requires
-    slice-aggregate-read-input
-    read-input-requires
-    slice-aggregate-fail
-    fail-requires
+    slice-aggregate-get
+    slice-aggregate-get-2
+    get-requires
     returns
     array-share-prefix-buffer
     slice-aggregate-print-term
