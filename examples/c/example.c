@@ -50,6 +50,24 @@ static void check(const char *what, const uint8_t *s, size_t n)
     printf("\n");
 }
 
+static void check_set(const char *what, const uint8_t *s, size_t n)
+{
+    uint64_t answer[5];
+    bijterne_check_set(s, n, answer);
+    numbers(what, answer, 5);
+    printf("\n");
+}
+
+/* Adds a file to the set, which has room for it: the set's new length. */
+static size_t pack(uint8_t *set, size_t length, const uint8_t *s, size_t n)
+{
+    set[length] = 0x05;
+    set[length + 1] = (uint8_t)(n >> 8);
+    set[length + 2] = (uint8_t)(n & 0xff);
+    memcpy(set + length + 3, s, n);
+    return length + 3 + n;
+}
+
 static void write_type(const char *what, const uint8_t *s, size_t n, size_t m)
 {
     uint8_t out[BUFFER];
@@ -97,7 +115,7 @@ static void check_deep(const char *what, size_t depth)
 int main(void)
 {
     uint64_t answer[3];
-    uint8_t local[BUFFER], removed[BUFFER];
+    uint8_t local[BUFFER], removed[BUFFER], set[BIJTERNE_LONGEST_SET];
     size_t length;
 
     bijterne_examine_term(term, sizeof term, answer);
@@ -144,6 +162,15 @@ int main(void)
     check("check without a group", file, sizeof file - 6);
     check("check E3", e3, sizeof e3);
     check("check E3 without its step", e4, sizeof e4);
+
+    /* Two files on a shelf; the same with a file that is refused after them; and cut short. */
+    length = pack(set, 0, file, sizeof file);
+    length = pack(set, length, e3, sizeof e3);
+    check_set("check a set of two files", set, length);
+    length = pack(set, length, e4, sizeof e4);
+    check_set("check a set with a refused file", set, length);
+    check_set("check a set cut short", set, length - 1);
+
     check_deep("check 126 deep", 126);
     check_deep("check 2047 deep", 2047);
     return 0;

@@ -100,6 +100,17 @@ fn check(s: &[u8]) {
     io::write_all(1, b"\n");
 }
 
+fn check_set(s: &[u8]) {
+    let r = sets::check_set(s);
+    io::write_all(1, b"check a set:");
+    number(r.file);
+    number(r.number as usize);
+    number(r.place);
+    number(r.comparisons);
+    number(r.degree);
+    io::write_all(1, b"\n");
+}
+
 fn main() {
     examine_term(b"\xff\x00\xff\x01\x01");
     examine_file(b"\x01\x00\x01\x00");
@@ -114,4 +125,6 @@ fn main() {
     count_strings(3);
     count_strings(8);
     check(b"\x01\x00\x09\xff\x00\xff\x01\xfe\x01\xff\x02\x01\x02\x00\x00\x03\x00\x00");
+    check_set(b"\x05\x00\x04\x01\x00\x01\x00\x05\x00\x04\x01\x00\x01\x00");
+    check_set(b"\x05\x00\x04\x01\x00\x01\x00\x05\x00\x00");
 }

@@ -27,14 +27,15 @@ pub struct SetAnswer {
 fn read_heads(s: &[u8]) -> Field
     ensures { λ r. ⌜ r ≡ headsOf (length (now (s .entry))) (readSet (now (s .entry))) ⌝ }
 {
-    if LONGEST_SET < s.len() {
+    let n = s.len();
+    if LONGEST_SET < n {
         return Field::Fault(TOO_LONG, 0);
     }
-    if s.len() == 0 {
-        return Field::Fault(NOT_A_SET, 0);
+    if n == 0 {
+        return Field::Fault(NOT_A_SET, 0); // no file
     }
     let mut at: usize = 0;
-    while at < s.len() {
+    while at < n {
         let found = fields::read_field(s, at, FILE_TAG, 1);
         match found {
             Field::Fault(_, _) => {

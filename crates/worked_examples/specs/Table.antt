@@ -1,5 +1,5 @@
 -- Document 01, 'Examples to carry in the proofs': E1 with its degree and its type, E2 to E9, and example 11; some more of the type
--- and the step, with the buffer that is left: aa is a byte that was there before; and the readings of requests (a), (b) and (d).
+-- and the step, with the buffer that is left: aa is a byte that was there before; and the readings of requests (a), (b), (d) and (e).
 -- Assumes nothing.
 use Prim.Native.Nat.{ℕ, zero, suc}
 use mathlib.Core.Path.{_≡_}
@@ -10,24 +10,29 @@ use Rattle.calculus.specs.Steps.{Reading, pairs, base, full}
 use Rattle.files.specs.Check.{CheckAnswer, checkFileBy, checkFile}
 use Rattle.calls.specs.Answers.{Written, nothing, answer, typeAnswer, stepAnswer}
 use Rattle.printing.specs.Page.{printAnswer}
+use Rattle.sets.specs.declared.SetAnswer.{SetAnswer}
+use Rattle.sets.specs.Sets.{checkSet}
 
--- A call with what it is given: a term; a file; a file, under a reading before a request; a term and a buffer; a term, a step's kind and
--- place, and a buffer.
+-- A call with what it is given: a term; a file; a set; a file, under a reading before a request; a term and a buffer; a term, a step's kind
+-- and place, and a buffer.
 pub data Call : Type 0 where
-  examine-term check-file : List ℕ → Call
+  examine-term check-file check-set : List ℕ → Call
   check-by : Reading → List ℕ → Call
   write-type print-term : List ℕ → List ℕ → Call
   apply-step : List ℕ → (kind place : ℕ) → List ℕ → Call
 
--- Its answer: number, place and degree; number, place, comparisons and degree; 'none', or number, place, length, and the buffer.
+-- Its answer: number, place and degree; number, place, comparisons and degree; these with a file's number before them; 'none', or number,
+-- place, length, and the buffer.
 pub data Answer : Type 0 where
   of-term : TermAnswer → Answer
   of-file : CheckAnswer → Answer
+  of-set : SetAnswer → Answer
   of-buffer : Written → Answer
 
 abbrev pub answerTo : Call → Answer
 answerTo (examine-term s) = of-term (termAnswer s)
 answerTo (check-file s) = of-file (checkFile s)
+answerTo (check-set s) = of-set (checkSet s)
 answerTo (check-by y s) = of-file (checkFileBy y s)
 answerTo (write-type s out) = of-buffer (typeAnswer s out)
 answerTo (print-term s out) = of-buffer (printAnswer s out)
@@ -42,6 +47,9 @@ examineGives s n p d = record { call = examine-term s; gives = of-term (record {
 
 abbrev pub checkGives : List ℕ → (number place comparisons degree : ℕ) → Example
 checkGives s n p c d = record { call = check-file s; gives = of-file (record { number = n; place = p; comparisons = c; degree = d }) }
+
+abbrev pub setGives : List ℕ → (file number place comparisons degree : ℕ) → Example
+setGives s f n p c d = record { call = check-set s; gives = of-set (record { file = f; number = n; place = p; comparisons = c; degree = d }) }
 
 abbrev pub formerGives : Reading → List ℕ → (number place comparisons degree : ℕ) → Example
 formerGives y s n p c d = record { call = check-by y s; gives = of-file (record { number = n; place = p; comparisons = c; degree = d }) }
@@ -68,6 +76,10 @@ group = group-of 0 [] 0 []
 
 abbrev pub right-step : ℕ → List ℕ
 right-step kind = group-of 0 [] 3 (kind ∷ 0x00 ∷ 0x00 ∷ [])
+
+-- A file in a set, of so many bytes, below 256.
+abbrev pub in-set : ℕ → List ℕ → List ℕ
+in-set n f = 0x05 ∷ 0x00 ∷ n ∷ f
 
 -- Two steps of some kind at place 0.
 abbrev pub twice : ℕ → List ℕ
@@ -99,6 +111,16 @@ e5 = 0xff ∷ 0x00 ∷ 0xff ∷ 0xff ∷ 0x01 ∷ 0x02 ∷ 0xff ∷ 0x02 ∷ 0xf
 -- the term of condition 11: 509 bytes, 01 fd in a field's head
 abbrev pub outgrowing : List ℕ
 outgrowing = 0xff ∷ 0xff ∷ 0x00 ∷ 0x00 ∷ abstractors 252 (0xfd ∷ [])
+
+-- the files of E2, of τ, and of ⟨τ⟩τ, which is refused with 8
+abbrev pub e2-file : List ℕ
+e2-file = file 9 e2 group
+
+abbrev pub tau-file : List ℕ
+tau-file = file 1 (0x00 ∷ []) []
+
+abbrev pub waiting-file : List ℕ
+waiting-file = file 3 (0xfe ∷ 0x00 ∷ 0x00 ∷ []) []
 
 -- [τ]⟨1⟩[1]1 and [τ]⟨1⟩[1]2
 abbrev pub paired : ℕ → List ℕ
@@ -240,6 +262,21 @@ table =
     -- D7: accepted, where it was 10 before
     ∷ checkGives (file 17 inner-couples (group ++ group ++ group-of 0 [] 6 (twice 0x03))) 0 0 3 1
     ∷ formerGives (full pairs) (file 17 inner-couples (group ++ group ++ group-of 0 [] 6 (twice 0x03))) 10 4 2 1
+    -- request (e), E1: how many files, and the comparisons in all
+    ∷ setGives (in-set 18 e2-file ++ in-set 18 e2-file) 2 0 0 2 0
+    -- E2: a head cut short after a whole field; no field; a head, and a body, cut short
+    ∷ setGives (in-set 4 tau-file ++ 0x06 ∷ []) 0 16 7 0 0
+    ∷ setGives [] 0 16 0 0 0
+    ∷ setGives (0x05 ∷ 0x00 ∷ []) 0 16 0 0 0
+    ∷ setGives (in-set 5 tau-file) 0 16 0 0 0
+    -- E3: another tag, met before the file before it is checked
+    ∷ setGives (in-set 0 [] ++ 0x06 ∷ 0x00 ∷ 0x00 ∷ []) 0 16 3 0 0
+    -- E4: the empty file
+    ∷ setGives (in-set 4 tau-file ++ in-set 0 []) 1 1 0 0 0
+    -- E5: a refused file shows its own places and count, whatever came before it
+    ∷ setGives (in-set 18 e2-file ++ in-set 24 (file 9 e2 (group ++ group))) 1 13 18 1 3
+    -- and of two that are refused, the first
+    ∷ setGives (in-set 18 e2-file ++ in-set 6 waiting-file ++ in-set 0 []) 1 8 0 0 1
     ∷ []
 
 -- One fact: each call gives its answer.

@@ -1,6 +1,6 @@
 //! All calls on small inputs, one line for each, and a page. The C example prints the same lines.
 
-use bijterne::{apply_step, check, count_strings, examine_file, examine_term, print_term, write_type};
+use bijterne::{apply_step, check, check_set, count_strings, examine_file, examine_term, print_term, write_type};
 use bijterne::{CheckAnswer, Checker, Written, LONGEST_PAGE};
 use std::thread;
 
@@ -44,6 +44,19 @@ fn show_check(what: &str, file: &[u8]) {
 
 fn show(what: &str, a: CheckAnswer) {
     println!("{what}: {} {} {} {}", a.number, a.place, a.comparisons, a.degree);
+}
+
+fn show_set(what: &str, set: &[u8]) {
+    let a = check_set(set);
+    println!("{what}: {} {} {} {} {}", a.file, a.number, a.place, a.comparisons, a.degree);
+}
+
+/// Adds a file to the set.
+fn pack(set: &mut Vec<u8>, file: &[u8]) {
+    let length = u16::try_from(file.len()).expect("a set has at most 65,535 bytes");
+    set.push(0x05);
+    set.extend(length.to_be_bytes());
+    set.extend(file);
 }
 
 fn show_type(what: &str, term: &[u8], length: usize) {
@@ -113,6 +126,15 @@ fn main() {
     let mut checker = Checker::new().expect("a thread can be started");
     show("check E3", checker.check(E3));
     show("check E3 without its step", checker.check(E4));
+
+    // Two files on a shelf; the same with a file that is refused after them; and cut short.
+    let mut set = Vec::new();
+    pack(&mut set, FILE);
+    pack(&mut set, E3);
+    show_set("check a set of two files", &set);
+    pack(&mut set, E4);
+    show_set("check a set with a refused file", &set);
+    show_set("check a set cut short", &set[..set.len() - 1]);
 
     // A check does not depend on the caller's stack.
     let small = thread::Builder::new().stack_size(64 << 10).spawn(|| {

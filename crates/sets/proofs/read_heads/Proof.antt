@@ -13,10 +13,10 @@ use Rattle.sets.proofs.read_heads.Statement.{statement}
 use Rattle.sets.proofs.read_heads.Tie as tie
 
 abbrev Inv-loop : tie.InvT-loop
-Inv-loop s at₀ at = (at ≤ length s) × (headsOf (length s) (filesFrom s at) ≡ headsOf (length s) (readSet s))
+Inv-loop s n at₀ at = (at ≤ length s) × (headsOf (length s) (filesFrom s at) ≡ headsOf (length s) (readSet s))
 
 abbrev μ-loop : tie.MeasureT-loop
-μ-loop s at₀ at = length s - at
+μ-loop s n at₀ at = length s - at
 
 returns : tie.Need-returns Inv-loop μ-loop
 returns c = over-length (c .before .before .args .s .now) (c .if1 .taken)
