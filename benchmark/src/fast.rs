@@ -1,5 +1,5 @@
-//! The check of a file on bytes, the printing of a term and the counting of strings, made fast: written from documents 01 and
-//! 02, with the same answers as `reference`.
+//! The check of a file on bytes and of a set, the printing of a term and the counting of strings, made fast: written from
+//! documents 01 and 02, with the same answers as `reference`.
 //!
 //! Every term of a state is a piece of the file's term, so no term is copied in the walk. A piece is a place and an
 //! environment, which says for each abstractor of the text around the place which entry of R stands for it. Entries are
@@ -9,7 +9,7 @@
 //! What a state holds moves between R, W, Y and B, and its size changes only where a variable is typed. The scope of R and B
 //! never grows either but there, so that after an abstractor only what still waits is tested.
 
-use bijterne::{CountAnswer, Written};
+use bijterne::{CountAnswer, SetAnswer, Written};
 
 const MAX_FILE: usize = 65_535;
 pub const MAX_TERM: usize = 4096;
@@ -1176,7 +1176,7 @@ pub fn count_strings(length: usize) -> CountAnswer {
         return CountAnswer { number: 15, accepted: 0, malformed: 0, unbound: 0 };
     }
     let strings = 1 << (8 * length);
-    if length % 2 == 0 {
+    if length.is_multiple_of(2) {
         return CountAnswer { number: 0, accepted: 0, malformed: strings, unbound: 0 };
     }
     let items = length / 2;
@@ -1196,4 +1196,53 @@ pub fn count_strings(length: usize) -> CountAnswer {
     }
     let (terms, accepted) = (terms[items], closed[items][0]);
     CountAnswer { number: 0, accepted, malformed: strings - terms, unbound: terms - accepted }
+}
+
+// ---- Sets.
+
+/// Checks a set in buffers cleared for it, once.
+#[inline(never)]
+pub fn check_set(set: &[u8]) -> SetAnswer {
+    check_set_in(&mut Space::new(), set)
+}
+
+/// Checks a set in buffers that are kept and not cleared.
+pub fn check_set_in(space: &mut Space, set: &[u8]) -> SetAnswer {
+    let refused = |number: u32, place: usize| SetAnswer { file: 0, number, place, comparisons: 0, degree: 0 };
+    if set.len() > MAX_FILE {
+        return refused(4, 0);
+    }
+    let mut head = 0;
+    while head < set.len().max(1) {
+        match file_at(set, head) {
+            Some(file) => head += 3 + file.len(),
+            None => return refused(16, head),
+        }
+    }
+    check_files(set, |file| check_in(space, file))
+}
+
+/// The file of the field at `head`, if that is whole and has the tag.
+fn file_at(set: &[u8], head: usize) -> Option<&[u8]> {
+    let &[5, high, low] = set.get(head..head + 3)? else {
+        return None;
+    };
+    let start = head + 3;
+    set.get(start..start + (usize::from(high) << 8 | usize::from(low)))
+}
+
+/// Checks the files of a set, whose heads are good, up to the first that is refused.
+pub fn check_files(set: &[u8], mut check: impl FnMut(&[u8]) -> Answer) -> SetAnswer {
+    let mut accepted = SetAnswer { file: 0, number: 0, place: 0, comparisons: 0, degree: 0 };
+    let mut head = 0;
+    while let Some(file) = file_at(set, head) {
+        let Answer { number, place, comparisons, degree } = check(file);
+        if number != 0 {
+            return SetAnswer { number, place, comparisons, degree, ..accepted };
+        }
+        accepted.file += 1;
+        accepted.comparisons += comparisons;
+        head += 3 + file.len();
+    }
+    accepted
 }

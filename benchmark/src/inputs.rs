@@ -7,12 +7,15 @@ use reference::normaliser::{in_parts, meet, possible_steps, Manner, Reduction};
 use reference::term::{abs, app, Term};
 use reference::walk::walk;
 
-/// What is called with an input: a file is checked, a bare term printed, or the strings as long as the input counted.
+/// What is called with an input: a file is checked, a bare term printed, the strings as long as the input counted, a set
+/// checked, or its files one by one.
 #[derive(Clone, Copy)]
 pub enum Call {
     Check,
     Print,
     Count,
+    Set,
+    OneByOne,
 }
 
 pub struct Input {
@@ -40,7 +43,11 @@ const fn counted(name: &'static str, what: &'static str, make: fn() -> Vec<u8>) 
     Input { name, what, call: Call::Count, number: 0, make }
 }
 
-pub const ALL: [Input; 30] = [
+const fn shelved(name: &'static str, what: &'static str, call: Call) -> Input {
+    Input { name, what, call, number: 0, make: shelf }
+}
+
+pub const ALL: [Input; 32] = [
     accepted("small", "small file (E3 of document 01)", small),
     accepted("book1", "book of 1 KB", || book(1023, 0, SHORT)),
     accepted("book2", "book of 2 KB", || book(2047, 0, SHORT)),
@@ -71,6 +78,8 @@ pub const ALL: [Input; 30] = [
     printed("pageU", "page of 2,047 deep in U", || gen::nested(2047)),
     printed("page3", "page of 1,795 indices of three digits", long_indices),
     counted("count7", "count of the strings of 7 bytes", || vec![0; 7]),
+    shelved("shelf", "shelf of 300 files, checked as a set", Call::Set),
+    shelved("files", "the same 300 files, checked one by one", Call::OneByOne),
 ];
 
 fn joined(parts: &[&[u8]]) -> Vec<u8> {
@@ -555,7 +564,7 @@ fn used_pairs(pairs: usize, uses: usize) -> Vec<u8> {
 /// [f:[N]*] of 1,500 bytes, and f as often as there is room.
 fn long_declaration() -> Vec<u8> {
     let n = gen::nested(748);
-    let uses = (4095 - n.len() - 3 + 1) / 2;
+    let uses = (4095 - n.len() - 3).div_ceil(2);
     let term = joined(&[&[0xff, 0xff], &n, &[0], &uses_of(1, uses)]);
     gen::file(&term, &[])
 }
@@ -573,4 +582,13 @@ fn long_bodies(uses: usize, count: usize) -> Vec<u8> {
 fn long_indices() -> Vec<u8> {
     let applicators = (0..1794).flat_map(|i| [0xfe, (100 + i * 5 % 154) as u8]).collect::<Vec<u8>>();
     joined(&[&times(253, &[0xff, 0]), &applicators, &[253]])
+}
+
+// ---- Sets.
+
+/// Five small files in turn, E3 and books, of 31 to 560 bytes: 65,400 bytes.
+fn shelf() -> Vec<u8> {
+    let of_terms = |bytes: usize| book(bytes, 0, SHORT);
+    let five = [small(), of_terms(45), of_terms(60), of_terms(80), of_terms(150)];
+    times(60, &gen::set(&five))
 }

@@ -2,8 +2,8 @@
 //!
 //!     benchmark                            every input: the answers of all three implementations, then the times
 //!     benchmark quick                      the same without the reference's answers, which take a minute
-//!     benchmark agree SEED COUNT           fast and proved against the reference on generated files and bare terms, and in
-//!                                          every count
+//!     benchmark agree SEED COUNT           fast and proved against the reference on generated files, bare terms and sets, and
+//!                                          in every count
 //!     benchmark wrapper                    the three ways to check a file from Rust
 //!     benchmark one NAME proved|fast [N]   one input alone, N times, for a profiler
 
@@ -11,7 +11,7 @@ mod chains;
 mod fast;
 mod inputs;
 
-use bijterne::{CountAnswer, Written, LONGEST_COUNTED, LONGEST_PAGE};
+use bijterne::{CountAnswer, SetAnswer, Written, LONGEST_COUNTED, LONGEST_PAGE};
 use fast::{Answer, Space};
 use inputs::{Call, Input};
 use reference::file::read_fields;
@@ -50,8 +50,16 @@ const CLEARED: usize = 1;
 const KEPT: usize = 2;
 const REFERENCE: usize = 3;
 
-/// The numbers of an answer in turn: of a check and of a count four, of printing three and a 0.
-type Numbers = [usize; 4];
+/// The numbers of an answer in turn, 0 after the last: of a set five, of a check and of a count four, of printing three.
+type Numbers = [usize; 5];
+
+/// Which of them is the number.
+fn number_of(call: Call, numbers: Numbers) -> usize {
+    match call {
+        Call::Set | Call::OneByOne => numbers[1],
+        _ => numbers[0],
+    }
+}
 
 /// One call. Where a page is printed, the buffer is lent for it.
 fn answer(call: Call, which: usize, bytes: &[u8], space: &mut Space, buffer: &mut [u8]) -> Numbers {
@@ -69,7 +77,7 @@ fn answer(call: Call, which: usize, bytes: &[u8], space: &mut Space, buffer: &mu
                 KEPT => fast::print_in(space, bytes, buffer),
                 _ => reference_page(bytes, buffer),
             };
-            [number as usize, place, length, 0]
+            [number as usize, place, length, 0, 0]
         }
         Call::Count => {
             let CountAnswer { number, accepted, malformed, unbound } = match which {
@@ -78,13 +86,29 @@ fn answer(call: Call, which: usize, bytes: &[u8], space: &mut Space, buffer: &mu
                 // Without buffers.
                 _ => fast::count_strings(bytes.len()),
             };
-            [u64::from(number), accepted, malformed, unbound].map(|value| value as usize)
+            [u64::from(number), accepted, malformed, unbound, 0].map(|value| value as usize)
         }
+        Call::Set => of_set(match which {
+            PROVED => proved_set(bytes),
+            CLEARED => fast::check_set(bytes),
+            KEPT => fast::check_set_in(space, bytes),
+            _ => reference_set(bytes),
+        }),
+        Call::OneByOne => of_set(match which {
+            PROVED => fast::check_files(bytes, proved_check),
+            CLEARED => fast::check_files(bytes, fast::check),
+            KEPT => fast::check_files(bytes, |file| fast::check_in(space, file)),
+            _ => fast::check_files(bytes, reference_check),
+        }),
     }
 }
 
 fn of_check(a: Answer) -> Numbers {
-    [a.number as usize, a.place, a.comparisons, a.degree]
+    [a.number as usize, a.place, a.comparisons, a.degree, 0]
+}
+
+fn of_set(a: SetAnswer) -> Numbers {
+    [a.file, a.number as usize, a.place, a.comparisons, a.degree]
 }
 
 fn reference_check(file: &[u8]) -> Answer {
@@ -100,6 +124,17 @@ fn reference_page(term: &[u8], buffer: &mut [u8]) -> Written {
 fn reference_counts(length: usize) -> CountAnswer {
     let a = reference::count_strings(length);
     CountAnswer { number: a.number.into(), accepted: a.accepted, malformed: a.refused_3, unbound: a.refused_5 }
+}
+
+fn reference_set(set: &[u8]) -> SetAnswer {
+    let a = reference::check_set(set);
+    SetAnswer { file: a.file, number: a.number.into(), place: a.place, comparisons: a.comparisons, degree: a.degree as usize }
+}
+
+/// On the caller's stack, which `main` makes large.
+fn proved_set(set: &[u8]) -> SetAnswer {
+    // SAFETY: the stack is larger than any check needs.
+    unsafe { bijterne::check_set_here(set) }
 }
 
 /// On the caller's stack, which `main` makes large.
@@ -133,6 +168,7 @@ fn agree(seed: u64, count: u64) {
     agree_on_files(&mut rng, seed, count, &mut space);
     agree_on_pages(&mut rng, seed, count, &mut space);
     agree_on_counts(&mut space);
+    agree_on_sets(&mut rng, seed, count, &mut space);
 }
 
 /// Generated files: every tenth with chains of copied text, every tenth at a limit, and of the others one in eight too.
@@ -200,6 +236,22 @@ fn agree_on_counts(space: &mut Space) {
     println!("strings of 0 to {last} bytes counted alike");
 }
 
+/// Generated sets.
+fn agree_on_sets(rng: &mut Rng, seed: u64, count: u64, space: &mut Space) {
+    let mut numbers = [0; 17];
+    for i in 0..count {
+        let file = gen::random_file(rng);
+        let set = gen::random_set(rng, &file);
+        let given = common_answer(&format!("set {i} of seed {seed}"), Call::Set, REFERENCE, &set, 0, space);
+        numbers[number_of(Call::Set, given)] += 1;
+    }
+    println!("{count} sets agreed; answers 0 to 13 and 16: {:?} {}", &numbers[..14], numbers[16]);
+    if count >= 300 && (numbers[0] == 0 || numbers[16] == 0 || numbers[1..14].iter().all(|many| *many == 0)) {
+        println!("MISSING accepted sets, sets with a refused file, or 16");
+        exit(1);
+    }
+}
+
 /// About 4,096 bytes, or index 253 with about 253 abstractors in scope.
 fn term_near_limit(rng: &mut Rng) -> Vec<u8> {
     if rng.below(2) == 0 {
@@ -228,8 +280,8 @@ const ROUNDS: usize = 100;
 fn benchmark(with_reference: bool) {
     println!(
         "Release builds. proved: clears its own buffers in every call. cleared: fast, clears its buffers in every call, {} bytes\n\
-         for a check, up to {} for a page, none for a count. kept: fast, keeps its buffers and clears nothing. The best of\n\
-         {ROUNDS} interleaved measurements counts.\n",
+         for a check or a set, up to {} for a page, none for a count. kept: fast, keeps its buffers and clears nothing. The\n\
+         best of {ROUNDS} interleaved measurements counts.\n",
         std::mem::size_of::<Space>(),
         fast::MAX_TERM
     );
@@ -270,6 +322,9 @@ fn benchmark(with_reference: bool) {
     let bytes = whole.bytes.len() as f64 / parts.bytes.len() as f64;
     println!("\nA book with kind 3 against the same with kinds 1 and 2:");
     println!("bytes {bytes:.2}; time: proved {:.2}, cleared {:.2}, kept {:.2}", of(PROVED), of(CLEARED), of(KEPT));
+    let of = |which: usize| best("shelf")[which] / best("files")[which];
+    println!("\nA shelf as a set against its files one by one:");
+    println!("time: proved {:.2}, cleared {:.2}, kept {:.2}", of(PROVED), of(CLEARED), of(KEPT));
 }
 
 /// All implementations up to `last` give one answer, with the number that the input is made for.
@@ -280,15 +335,16 @@ fn verify(input: &Input, bytes: &[u8], last: usize, space: &mut Space) {
             let (answer, counts) = fast::count(bytes);
             let term = usize::from(bytes[1]) << 8 | usize::from(bytes[2]);
             let columns = [bytes.len(), term, answer.comparisons, counts.steps, counts.own + counts.copied];
-            (of_check(answer), columns.map(|column| column.to_string()), &given[..])
+            (of_check(answer), columns.map(|column| column.to_string()), &given[..4])
         }
         Call::Print => (given, ["", &bytes.len().to_string(), "", "", ""].map(String::from), &given[..3]),
-        Call::Count => (given, [""; 5].map(String::from), &given[..]),
+        Call::Count => (given, [""; 5].map(String::from), &given[..4]),
+        Call::Set | Call::OneByOne => (given, [&bytes.len().to_string(), "", "", "", ""].map(String::from), &given[..]),
     };
     let [file, term, comparisons, steps, states] = columns;
     let shown: Vec<String> = shown.iter().map(usize::to_string).collect();
     println!("{:56} {file:>6} {term:>6} {comparisons:>5} {steps:>6} {states:>7}  {}", input.what, shown.join(" "));
-    if given[0] != input.number || counted != given {
+    if number_of(input.call, given) != input.number || counted != given {
         println!("the number should be {}, and counting gives {counted:?}", input.number);
         exit(1);
     }

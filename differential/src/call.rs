@@ -15,6 +15,7 @@ pub enum Kind {
     Print,
     /// The strings of this length.
     Count(usize),
+    Set,
 }
 
 use Kind::*;
@@ -22,6 +23,7 @@ use Kind::*;
 extern "C" {
     /// Called as from C, so that the answer can be filled beforehand: a number that is not written shows then.
     fn bijterne_count_strings(length: usize, answer: *mut [u64; 4]);
+    fn bijterne_check_set(s: *const u8, n: usize, answer: *mut [u64; 5]);
 }
 
 /// Bytes before and after a lent buffer that no call may touch.
@@ -36,9 +38,11 @@ pub struct Call {
     pub buffer: Vec<u8>,
 }
 
-/// An answer: the call's numbers, or none if it is 'none', and the buffer and its guards after the call.
+/// An answer: for Set the file number, the call's numbers, or none if it is 'none', and the buffer and its guards after the
+/// call. The numbers of Set are those of Check.
 #[derive(Clone, PartialEq, Eq)]
 pub struct Answer {
+    pub file: Option<u64>,
     pub numbers: Option<[u64; 4]>,
     buffer: Vec<u8>,
 }
@@ -59,7 +63,7 @@ impl Answer {
     }
 
     fn of(numbers: [u64; 4], buffer: Vec<u8>) -> Answer {
-        Answer { numbers: Some(numbers), buffer }
+        Answer { file: None, numbers: Some(numbers), buffer }
     }
 
     fn of_written(a: StepAnswer, buffer: Vec<u8>) -> Answer {
@@ -81,6 +85,7 @@ impl Call {
     pub fn proved(&self) -> Answer {
         let s = &self.input[..];
         let mut buffer = self.buffer.clone();
+        let mut file = None;
         let numbers = match self.kind {
             Term => {
                 let a = bijterne::examine_term(s);
@@ -105,8 +110,16 @@ impl Call {
                 unsafe { bijterne_count_strings(length, &mut numbers) };
                 Some(numbers)
             }
+            Set => {
+                let mut numbers = [u64::MAX; 5];
+                // SAFETY: the pointers and the length are those of a live slice and a live array; the stack is as for Check.
+                unsafe { bijterne_check_set(s.as_ptr(), s.len(), &mut numbers) };
+                let [of_file, number, place, comparisons, degree] = numbers;
+                file = Some(of_file);
+                Some([number, place, comparisons, degree])
+            }
         };
-        Answer { numbers, buffer }
+        Answer { file, numbers, buffer }
     }
 
     /// The reference's answer; none if it panics.
@@ -124,7 +137,7 @@ impl Call {
                     Answer::of([a.number.into(), a.place as u64, a.part.start as u64, a.part.end as u64], buffer)
                 }
                 Type => match reference::write_type(s, lent(&mut buffer)) {
-                    TypeAnswer::None_ => Answer { numbers: None, buffer },
+                    TypeAnswer::None_ => Answer { file: None, numbers: None, buffer },
                     TypeAnswer::Answer { number, place, len } => Answer::of_written(StepAnswer { number, place, len }, buffer),
                 },
                 Step(kind, place) => Answer::of_written(reference::apply_step(s, kind, place, lent(&mut buffer)), buffer),
@@ -136,6 +149,11 @@ impl Call {
                 Count(length) => {
                     let a = reference::count_strings(length);
                     Answer::of([a.number.into(), a.accepted, a.refused_3, a.refused_5], buffer)
+                }
+                Set => {
+                    let a = reference::check_set(s);
+                    let answer = Answer::of([a.number.into(), a.place as u64, a.comparisons as u64, a.degree], buffer);
+                    Answer { file: Some(a.file as u64), ..answer }
                 }
             }
         }))
@@ -197,6 +215,9 @@ impl fmt::Display for Call {
 
 impl fmt::Display for Answer {
     fn fmt(&self, f: &mut fmt::Formatter) -> fmt::Result {
+        if let Some(file) = self.file {
+            write!(f, "{file} ")?;
+        }
         match self.numbers {
             None => write!(f, "none")?,
             Some([a, b, c, d]) => write!(f, "{a} {b} {c} {d}")?,

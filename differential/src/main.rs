@@ -1,4 +1,4 @@
-//! differential SEED COUNT: the proved calls, through the Rust wrapper (Count as from C), against the independent
+//! differential SEED COUNT: the proved calls, through the Rust wrapper (Count and Set as from C), against the independent
 //! implementation. Every number of the two answers is compared, and every byte of a lent buffer with 8 bytes on each side of it.
 //!
 //! Compared first, whatever the seed:
@@ -12,24 +12,28 @@
 //!   every applicator; a train for every sequence of at most 8 applicators and abstractors, for Step of kinds 1 to 3 at every
 //!   place;
 //! - closed terms of every size about a line's end, the smallest and the longest, for Print, into the buffers that `pages` says;
-//! - all strings of at most 2 bytes, counted by the proved library's own answers to Term, for Count.
+//! - all strings of at most 2 bytes, counted by the proved library's own answers to Term, for Count;
+//! - all strings of at most 7 bytes over 00 01 04 05, and the sets in `sets`, for Set.
 //!
 //! Then, for each number below COUNT, from the seed: a file (File, Check); a bare term (Term, Type, Step, Print), the buffer
-//! longer than the result, and then empty, too short by one, exact or longer by one, its bytes at random; a length (Count).
+//! longer than the result, and then empty, too short by one, exact or longer by one, its bytes at random; a length (Count); for
+//! one number in four a set, in one of four with that file in it (Set).
 //!
 //! A disagreement prints the smallest call that it could be shrunk to, and the exit status is 1; so it is if in a run of
-//! 100,000 or more, among the calls made from the seed, some number from 0 to 15 was no call's answer, or no accepted file had so
+//! 100,000 or more, among the calls made from the seed, some number from 0 to 16 was no call's answer, or no accepted file had so
 //! many comparisons, or steps, or some number was missing from the answers with kind 3, or from those that would be 10 if steps
-//! took pairs only, or 0, 3, 4, 5, 6 or 14 from those of Print, or 0 or 15 from those of Count.
+//! took pairs only, or 0, 3, 4, 5, 6 or 14 from those of Print, or 0 or 15 from those of Count, or 0 to 13 or 16 from those of
+//! Set, or 1 to 13 from those of Set that name a file after the first, or no accepted set had so many files.
 
 mod call;
 mod named;
+mod sets;
 mod shrink;
 mod tally;
 
 use call::{Answer, Call, Kind};
 use reference::frame::{LOCAL, REMOVAL, SUBSTITUTION};
-use reference::gen::{bare_term, closed_term, empty_groups, file, random_file, step_for, items_after, ItemKind};
+use reference::gen::{bare_term, closed_term, empty_groups, file, items_after, random_file, random_set, step_for, ItemKind};
 use reference::rng::Rng;
 use reference::mistakes::set_aside;
 use reference::page::page_length;
@@ -63,8 +67,8 @@ fn named_limits(tally: &mut Tally) -> Result<usize, Disagreed> {
     let all = named::named();
     for named in &all {
         let answer = compare(&named.call, tally)?;
-        if answer.numbers != named.numbers {
-            println!("DISAGREE with the table on '{}': {answer} and not {:?}", named.name, named.numbers);
+        if (answer.file, answer.numbers) != (named.file, named.numbers) {
+            println!("DISAGREE with the table on '{}': {answer} and not {:?} {:?}", named.name, named.file, named.numbers);
             return Err(Disagreed);
         }
         if named.written.as_ref().is_some_and(|written| !answer.wrote(written, &named.call)) {
@@ -147,6 +151,10 @@ fn fixed(tally: &mut Tally) -> Result<usize, Disagreed> {
         }
     }
     trains(&mut rng, tally)?;
+    let values = [0x00, 0x01, 0x04, 0x05];
+    for input in strings(&values, 7).into_iter().chain(sets::all()) {
+        compare(&Call::new(Kind::Set, &input), tally)?;
+    }
     Ok(written)
 }
 
@@ -234,12 +242,12 @@ fn compare_written(kind: Kind, input: &[u8], rng: &mut Rng, tally: &mut Tally) -
     Ok(())
 }
 
-/// The file, the bare term and the length made from one number.
+/// The file, the bare term, the length and sometimes the set made from one number.
 fn random(number: u64, tally: &mut Tally) -> Result<(), Disagreed> {
     let mut rng = Rng::new(number);
-    let input = set_aside(|| random_file(&mut rng));
-    compare(&Call::new(Kind::File, &input), tally)?;
-    compare(&Call::new(Kind::Check, &input), tally)?;
+    let file = set_aside(|| random_file(&mut rng));
+    compare(&Call::new(Kind::File, &file), tally)?;
+    compare(&Call::new(Kind::Check, &file), tally)?;
     let input = set_aside(|| bare_term(&mut rng));
     compare(&Call::new(Kind::Term, &input), tally)?;
     compare_written(Kind::Type, &input, &mut rng, tally)?;
@@ -253,6 +261,10 @@ fn random(number: u64, tally: &mut Tally) -> Result<(), Disagreed> {
         _ => (rng.next_u64() >> rng.below(64)) as usize,
     };
     compare(&Call::new(Kind::Count(length), &[]), tally)?;
+    if rng.below(4) == 0 {
+        let input = set_aside(|| random_set(&mut rng, &file));
+        compare(&Call::new(Kind::Set, &input), tally)?;
+    }
     Ok(())
 }
 

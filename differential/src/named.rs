@@ -1,5 +1,5 @@
-//! Document 01's examples, the readings of kind 3, of printing, of counting and of couples, and inputs just within a limit and
-//! just beyond it, each with its answer written out.
+//! Document 01's examples, the readings of kind 3, of printing, of counting, of couples and of sets, and inputs just within a
+//! limit and just beyond it, each with its answer written out.
 //!
 //! Every state's size is odd: an item counts 1 and a term, whose size is odd. So 8,192 bytes is no state's size, and 8,191 and
 //! 8,193 are the neighbours of that limit; 4,095 and 4,097 those of a compared body's. While B is the term's own text, R, W and
@@ -9,13 +9,15 @@
 use crate::call::{Call, Kind};
 use reference::file::Group;
 use reference::frame::{Step, LOCAL, REMOVAL, SUBSTITUTION};
-use reference::gen::{all_four, coupled_copies, coupled_scopes, empty_groups, file, nested, nested_couples};
-use reference::gen::{stepped_copies, substituted_copies, substituted_scopes, times};
+use reference::gen::{all_four, coupled_copies, coupled_scopes, empty_groups, field, file, files_for, nested, nested_couples};
+use reference::gen::{set, shelf, stepped_copies, substituted_copies, substituted_scopes, times};
 use reference::rng::Rng;
 
 pub struct Named {
     pub name: &'static str,
     pub call: Call,
+    /// The file number, for a set.
+    pub file: Option<u64>,
     /// What is expected; none for the answer 'none'.
     pub numbers: Option<[u64; 4]>,
     /// What the call writes at the start of the lent buffer, where it is written out here: nothing at a refusal.
@@ -30,17 +32,23 @@ struct Table(Vec<Named>);
 impl Table {
     fn check(&mut self, name: &'static str, file: Vec<u8>, (number, place, comparisons, degree): Numbers) {
         let numbers = Some([number, place as u64, comparisons, degree]);
-        self.0.push(Named { name, call: Call::new(Kind::Check, &file), numbers, written: None });
+        self.0.push(Named { name, call: Call::new(Kind::Check, &file), file: None, numbers, written: None });
     }
 
     /// Examining a file: number, place, and the part's start and end.
     fn examine(&mut self, name: &'static str, file: &[u8], numbers: [u64; 4]) {
-        self.0.push(Named { name, call: Call::new(Kind::File, file), numbers: Some(numbers), written: None });
+        self.0.push(Named { name, call: Call::new(Kind::File, file), file: None, numbers: Some(numbers), written: None });
     }
 
     /// Counting: number, accepted, refused 3, refused 5.
     fn count(&mut self, name: &'static str, length: usize, numbers: [u64; 4]) {
-        self.0.push(Named { name, call: Call::new(Kind::Count(length), &[]), numbers: Some(numbers), written: None });
+        self.0.push(Named { name, call: Call::new(Kind::Count(length), &[]), file: None, numbers: Some(numbers), written: None });
+    }
+
+    /// A set: the file number, and the four numbers.
+    fn set(&mut self, name: &'static str, set: &[u8], file: u64, (number, place, comparisons, degree): Numbers) {
+        let numbers = Some([number, place as u64, comparisons, degree]);
+        self.0.push(Named { name, call: Call::new(Kind::Set, set), file: Some(file), numbers, written: None });
     }
 
     /// A file with empty groups.
@@ -53,7 +61,7 @@ impl Table {
         let numbers = numbers.map(|(number, place, third)| [number, place as u64, third, 0]);
         let accepted = numbers.is_some_and(|numbers| numbers[0] == 0);
         let written = (!accepted).then(Vec::new);
-        self.0.push(Named { name, call: Call::lending(kind, term, lent, &mut Rng::new(0)), numbers, written });
+        self.0.push(Named { name, call: Call::lending(kind, term, lent, &mut Rng::new(0)), file: None, numbers, written });
     }
 
     /// The same with the result written out; it is accepted.
@@ -112,6 +120,7 @@ pub fn named() -> Vec<Named> {
     wagons_between(&mut table);
     couples_at_limits(&mut table);
     couples_in_files(&mut table);
+    sets(&mut table);
     table.0
 }
 
@@ -861,5 +870,105 @@ fn couples_in_files(t: &mut Table) {
             let numbers = if accepted { (0, 0, compared + 1, 1) } else { (11, 3 + declared, compared, 1) };
             t.check("a body of about 253 scopes", file(&term, &groups), numbers);
         }
+    }
+}
+
+/// Sets: the readings E1 to E6, heads, cuts, lengths, and each number as the answer of a file of the set.
+fn sets(t: &mut Table) {
+    const NOT_A_SET: u64 = 16;
+    let tau = file(&[0], &[]);
+    let e2 = |groups: usize| file(&[0xff, 0, 0xff, 1, 0xfe, 1, 0xff, 2, 1], &empty_groups(groups));
+    let three = [e2(1), tau.clone(), e2(1)];
+    t.set("E1: two of E2", &set(&[e2(1), e2(1)]), 2, (0, 0, 2, 0));
+    t.set("one file", &set(&[&tau]), 1, (0, 0, 0, 0));
+    t.set("three files", &set(&three), 3, (0, 0, 2, 0));
+    t.set("E2: another tag", &[5, 0, 4, 1, 0, 1, 0, 6], 0, (NOT_A_SET, 7, 0, 0));
+    t.set("E2: the empty set", &[], 0, (NOT_A_SET, 0, 0, 0));
+    t.set("E2: a head cut short", &[5, 0], 0, (NOT_A_SET, 0, 0, 0));
+    t.set("E2: a file cut short", &[5, 0, 5, 1, 0, 1, 0], 0, (NOT_A_SET, 0, 0, 0));
+    t.set("E3: a tag before any check", &[5, 0, 0, 6, 0, 0], 0, (NOT_A_SET, 3, 0, 0));
+    t.set("E3: a cut before any check", &[5, 0, 0, 5, 0, 1], 0, (NOT_A_SET, 3, 0, 0));
+    t.set("E3: the first of two tags", &[5, 0, 0, 4, 0, 0, 6, 0, 0], 0, (NOT_A_SET, 3, 0, 0));
+    t.set("E4: an empty file", &[5, 0, 4, 1, 0, 1, 0, 5, 0, 0], 1, (1, 0, 0, 0));
+    t.set("E5: its own place and count", &set(&[e2(1), e2(2)]), 1, (13, 18, 1, 3));
+    t.set("a file and no set", &tau, 0, (NOT_A_SET, 0, 0, 0));
+    t.set("a set in a set", &set(&[set(&[&tau])]), 0, (2, 0, 0, 0));
+    t.set("a length that takes in the next head", &[5, 0, 5, 1, 0, 1, 0, 5, 0, 4, 1, 0, 1, 0], 0, (NOT_A_SET, 8, 0, 0));
+    t.set("a length that takes in the next field", &[5, 0, 11, 1, 0, 1, 0, 5, 0, 4, 1, 0, 1, 0], 0, (2, 4, 0, 0));
+    t.set("a length that leaves a byte", &[5, 0, 3, 1, 0, 1, 0, 5, 0, 4, 1, 0, 1, 0], 0, (NOT_A_SET, 6, 0, 0));
+    for tag in (0..=255).filter(|tag| *tag != 5) {
+        t.set("the second tag", &joined(&[&field(5, &e2(1)), &field(tag, &tau)]), 0, (NOT_A_SET, 21, 0, 0));
+    }
+    for length in 0..49 {
+        // Fields of 21, 7 and 21 bytes.
+        let (files, numbers) = match length {
+            0..=20 => (0, (NOT_A_SET, 0, 0, 0)),
+            21 => (1, (0, 0, 1, 0)),
+            22..=27 => (0, (NOT_A_SET, 21, 0, 0)),
+            28 => (2, (0, 0, 1, 0)),
+            _ => (0, (NOT_A_SET, 28, 0, 0)),
+        };
+        t.set("three files cut", &set(&three)[..length], files, numbers);
+    }
+
+    let empty = times(21_845, &[5, 0, 0]);
+    t.set("E6: 21,845 empty files", &empty, 0, (1, 0, 0, 0));
+    t.set("E6: one byte more", &joined(&[&empty, &[5]]), 0, (4, 0, 0, 0));
+    t.set("E6: 65,536 bytes, no head", &[0; 65_536], 0, (4, 0, 0, 0));
+    t.set("E6: 65,535 bytes, no head", &[0; 65_535], 0, (NOT_A_SET, 0, 0, 0));
+    t.set("65,535 bytes, the last head cut short", &[5; 65_535], 0, (NOT_A_SET, 64_400, 0, 0));
+    for length in [65_533, 65_534, 65_535] {
+        let files = files_for(length);
+        assert_eq!(set(&files).len(), length);
+        t.set("about 65,535 bytes", &set(&files), files.len() as u64, (0, 0, 0, 0));
+    }
+    for length in [65_536, 65_537, 65_538, 65_539, 131_071] {
+        t.set("over 65,535 bytes", &set(&files_for(length)), 0, (4, 0, 0, 0));
+    }
+    let long = |bytes: usize| set(&[field(1, &vec![0; bytes])]);
+    t.set("one file of 65,532 bytes", &long(65_529), 0, (4, 0, 0, 0));
+    t.set("one file of 65,533 bytes", &long(65_530), 0, (4, 0, 0, 0));
+    let groups = |n: usize| set(&[file(&[0], &empty_groups(n))]);
+    t.set("10,921 empty groups in a set", &groups(10_921), 0, (13, 4, 0, 1));
+    t.set("9,362 files", &times(9_362, &set(&[&tau])), 9_362, (0, 0, 0, 0));
+    t.set("9,361 files before an empty term", &joined(&[&times(9_361, &set(&[&tau])), &[5, 0, 3, 1, 0, 0]]), 9_361, (3, 0, 0, 0));
+    t.set("300 times E2", &times(300, &set(&[e2(1)])), 300, (0, 0, 300, 0));
+    let deep = file(&nested(2_047), &[]);
+    t.set("2,047 deep, twice", &set(&[&deep, &tau, &deep]), 3, (0, 0, 0, 0));
+
+    // After E3, with two comparisons, and before one more file that is refused, with 5.
+    let answers: [Numbers; 22] = [
+        (1, 0, 0, 0),
+        (1, 0, 0, 0),
+        (2, 0, 0, 0),
+        (2, 0, 0, 0),
+        (3, 2, 0, 0),
+        (4, 0, 0, 0),
+        (5, 2, 0, 0),
+        (6, 506, 0, 0),
+        (7, 0, 0, 1),
+        (7, 18, 4, 1),
+        (8, 0, 0, 1),
+        (8, 10, 2, 1),
+        (9, 4, 0, 3),
+        (9, 8, 1, 3),
+        (10, 4, 0, 3),
+        (10, 8, 1, 3),
+        (11, 508, 0, 2),
+        (11, 514, 3, 2),
+        (12, 4, 0, 2),
+        (12, 8, 1, 3),
+        (13, 4, 0, 1),
+        (13, 18, 1, 3),
+    ];
+    assert_eq!(shelf().refused.len(), answers.len());
+    let e3 = [0xff, 0, 0xff, 1, 0xfe, 2, 0xff, 0, 0xfe, 2, 0xff, 1, 1];
+    let e3 = file(&e3, &[no_steps(), group(vec![], local(0))]);
+    let unbound = file(&[1], &[]);
+    for (refused, numbers) in shelf().refused.iter().zip(answers) {
+        t.set("each refusal, first", &set(&[refused, &e3, &unbound]), 0, numbers);
+        t.set("each refusal, second", &set(&[&e3, refused, &unbound]), 1, numbers);
+        t.set("each refusal, third", &set(&[&e3, &tau, refused]), 2, numbers);
+        t.set("each refusal, a head after it", &joined(&[&set(&[&e3, refused]), &[5]]), 0, (NOT_A_SET, 37 + refused.len(), 0, 0));
     }
 }

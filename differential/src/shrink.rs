@@ -2,7 +2,7 @@
 
 use crate::call::{Call, Kind};
 use reference::file::{read_fields, Group};
-use reference::gen::file;
+use reference::gen::{field, fields_of, file};
 use reference::page::page_length;
 use reference::term::Term::{Abs, App, Tau, Var};
 use reference::term::{abs, app, end_of_term, read_term, Term};
@@ -98,28 +98,59 @@ fn rewritten(term: &Term, place: usize, part: fn(&Term) -> Option<Term>) -> Opti
     }
 }
 
-/// The call with less of its input or buffer; of a file, with fewer groups, steps or bytes of the term.
+/// What is found of a file with fewer groups, steps or bytes of the term.
+fn less_of_file(bytes: &[u8], found: impl Fn(Vec<u8>) -> Option<Call>) -> Option<Call> {
+    let fields = read_fields(bytes).ok()?;
+    let term = &bytes[fields.term];
+    let groups = &fields.groups;
+    let fewer = shorter(groups).map(|groups| file(term, &groups));
+    let less = smaller_terms(term).map(|term| file(&term, groups));
+    let steps = (0..groups.len()).flat_map(|i| {
+        let with = move |group: Group| {
+            let mut changed = groups.clone();
+            changed[i] = group;
+            file(term, &changed)
+        };
+        let left = shorter(&groups[i].left).map(move |left| with(Group { left, ..groups[i].clone() }));
+        let right = shorter(&groups[i].right).map(move |right| with(Group { right, ..groups[i].clone() }));
+        left.chain(right)
+    });
+    let mut smaller = fewer.chain(less).chain(steps);
+    smaller.find_map(found)
+}
+
+/// What is found of a set with fewer fields, less of a file, or fewer bytes.
+fn less_of_set(bytes: &[u8], found: impl Fn(Vec<u8>) -> Option<Call>) -> Option<Call> {
+    let fields = fields_of(bytes);
+    let rest = &bytes[fields.last().map_or(0, |last| last.end)..];
+    let fields: Vec<&[u8]> = fields.into_iter().map(|part| &bytes[part]).collect();
+    let fewer = || shorter(&fields).find_map(|fields| found([&fields.concat(), rest].concat()));
+    let less = || {
+        (0..fields.len()).find_map(|i| {
+            let with = |file: Vec<u8>| {
+                let changed = field(fields[i][0], &file);
+                found([&fields[..i].concat(), &changed[..], &fields[i + 1..].concat(), rest].concat())
+            };
+            let file = &fields[i][3..];
+            less_of_file(file, with).or_else(|| shorter(file).find_map(with))
+        })
+    };
+    fewer().or_else(less).or_else(|| shorter(bytes).find_map(&found))
+}
+
+/// The call with less of its input or buffer.
 fn with_less(call: &Call, differs: impl Fn(&Call) -> bool) -> Option<Call> {
     let with_input = |input: Vec<u8>| Call { input, ..call.clone() };
-    if let (Kind::File | Kind::Check, Ok(fields)) = (call.kind, read_fields(&call.input)) {
-        let term = &call.input[fields.term.clone()];
-        let groups = &fields.groups;
-        let fewer = shorter(groups).map(|groups| file(term, &groups));
-        let less = smaller_terms(term).map(|term| file(&term, groups));
-        let steps = (0..groups.len()).flat_map(|i| {
-            let with = move |group: Group| {
-                let mut changed = groups.clone();
-                changed[i] = group;
-                file(term, &changed)
-            };
-            let left = shorter(&groups[i].left).map(move |left| with(Group { left, ..groups[i].clone() }));
-            let right = shorter(&groups[i].right).map(move |right| with(Group { right, ..groups[i].clone() }));
-            left.chain(right)
-        });
-        let found = fewer.chain(less).chain(steps).map(with_input).find(&differs);
-        if found.is_some() {
-            return found;
+    let found = |input: Vec<u8>| Some(with_input(input)).filter(&differs);
+    match call.kind {
+        Kind::Set => return less_of_set(&call.input, found),
+        Kind::File | Kind::Check => {
+            let smaller = less_of_file(&call.input, found);
+            if smaller.is_some() {
+                return smaller;
+            }
         }
+        _ => {}
     }
     let inputs = smaller_terms(&call.input).flat_map(|input| {
         // What was left out may have stood before the step's place, or the buffer be about as long as the page.

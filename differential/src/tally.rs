@@ -8,11 +8,11 @@ use reference::refusal::BAD_STEP;
 use reference::{apply_step_by, check_by};
 
 /// The last column is 'none'.
-const NUMBERS: usize = 17;
-/// The calls; then again the step calls of kind 3, and the checks of a file with a step of kind 3; and the step calls, and every
-/// fifth check by the file's length, that would give 10 if steps took pairs only. Each with the numbers that some answer in its
-/// row must have.
-const ROWS: [(&str, &[usize]); 11] = [
+const NUMBERS: usize = 18;
+/// The calls; then again the step calls of kind 3, and the checks of a file with a step of kind 3; the step calls, and every
+/// fifth check by the file's length, that would give 10 if steps took pairs only; and the sets that a file after the first
+/// refuses. Each with the numbers that some answer in its row must have.
+const ROWS: [(&str, &[usize]); 13] = [
     ("term", &[]),
     ("file", &[]),
     ("type", &[]),
@@ -20,16 +20,19 @@ const ROWS: [(&str, &[usize]); 11] = [
     ("check", &[]),
     ("print", &[0, 3, 4, 5, 6, 14]),
     ("count", &[0, 15]),
+    ("set", &[0, 1, 2, 3, 4, 5, 6, 7, 8, 9, 10, 11, 12, 13, 16]),
     ("step 3", &[0, 10, 11, 14]),
     ("with 3", &[0, 9, 10, 11, 12, 13]),
     ("step c", &[0, 11, 14]),
     ("with c", &[0, 9, 11, 12, 13]),
+    ("later", &[1, 2, 3, 4, 5, 6, 7, 8, 9, 10, 11, 12, 13]),
 ];
 const CHECK: usize = 4;
-const STEP_3: usize = 7;
-const WITH_3: usize = 8;
-const STEP_COUPLE: usize = 9;
-const WITH_COUPLES: usize = 10;
+const STEP_3: usize = 8;
+const WITH_3: usize = 9;
+const STEP_COUPLE: usize = 10;
+const WITH_COUPLES: usize = 11;
+const LATER_FILE: usize = 12;
 const BUCKETS: [&str; 5] = ["0", "1", "2-5", "6-20", "more"];
 
 #[derive(Clone, Default)]
@@ -39,6 +42,19 @@ pub struct Tally {
     /// Accepted files by comparisons.
     accepted: [u64; 5],
     with_steps: u64,
+    /// Accepted sets by files.
+    sets: [u64; 5],
+}
+
+/// Which of `BUCKETS` it is.
+fn bucket(many: u64) -> usize {
+    match many {
+        0 => 0,
+        1 => 1,
+        2..=5 => 2,
+        6..=20 => 3,
+        _ => 4,
+    }
 }
 
 impl Tally {
@@ -51,6 +67,7 @@ impl Tally {
             Kind::Check => CHECK,
             Kind::Print => 5,
             Kind::Count(_) => 6,
+            Kind::Set => 7,
         };
         let number = answer.number().unwrap_or(NUMBERS - 1);
         self.rows[row][number] += 1;
@@ -76,14 +93,13 @@ impl Tally {
             _ => {}
         }
         if let (Kind::Check, Some([0, _, comparisons, _])) = (call.kind, answer.numbers) {
-            self.accepted[match comparisons {
-                0 => 0,
-                1 => 1,
-                2..=5 => 2,
-                6..=20 => 3,
-                _ => 4,
-            }] += 1;
+            self.accepted[bucket(comparisons)] += 1;
             self.with_steps += u64::from(steps.count() > 0);
+        }
+        match answer.file {
+            Some(files) if number == 0 => self.sets[bucket(files)] += 1,
+            Some(1..) => self.rows[LATER_FILE][number] += 1,
+            _ => {}
         }
     }
 
@@ -95,6 +111,9 @@ impl Tally {
             *mine += others;
         }
         self.with_steps += other.with_steps;
+        for (mine, others) in self.sets.iter_mut().zip(other.sets) {
+            *mine += others;
+        }
     }
 
     pub fn print(&self) {
@@ -118,9 +137,15 @@ impl Tally {
             print!("  {name}: {n}");
         }
         println!("\naccepted files with steps: {}", self.with_steps);
+        print!("accepted sets by files:");
+        for (name, n) in BUCKETS.iter().zip(self.sets).skip(1) {
+            print!("  {name}: {n}");
+        }
+        println!();
     }
 
-    /// What no answer had, among the numbers, the comparisons of accepted files, steps, and the numbers of `ROWS`.
+    /// What no answer had, among the numbers, the comparisons of accepted files, steps, the files of accepted sets, and the
+    /// numbers of `ROWS`.
     pub fn missing(&self) -> Vec<String> {
         let mut missing = Vec::new();
         for number in 0..NUMBERS - 1 {
@@ -135,6 +160,11 @@ impl Tally {
         }
         if self.with_steps == 0 {
             missing.push("accepted with steps".into());
+        }
+        for (name, n) in BUCKETS.iter().zip(self.sets).skip(1) {
+            if n == 0 {
+                missing.push(format!("accepted sets of {name} files"));
+            }
         }
         for ((name, numbers), row) in ROWS.iter().zip(self.rows) {
             missing.extend(numbers.iter().filter(|number| row[**number] == 0).map(|number| format!("{name} number {number}")));

@@ -1,4 +1,4 @@
-//! Random terms and files: texts correct by construction, damaged files,
+//! Random terms, files and sets: texts correct by construction, damaged files,
 //! terms and files at the limits.
 
 use crate::file::Group;
@@ -10,7 +10,10 @@ use crate::normaliser::{
     substitutions, Manner, Order, Reduction,
 };
 use crate::rng::Rng;
+use crate::set::MAX_SET_BYTES;
 use crate::term::{abs, app, read_term, Term, Term::*};
+use std::ops::Range;
+use std::sync::OnceLock;
 
 // ----------------------------------------------------------------- files
 
@@ -1527,4 +1530,178 @@ pub fn random_file(rng: &mut Rng) -> Vec<u8> {
             bytes
         }
     }
+}
+
+// ------------------------------------------------------------------ sets
+
+/// The set of these files.
+pub fn set<F: AsRef<[u8]>>(files: &[F]) -> Vec<u8> {
+    files
+        .iter()
+        .flat_map(|file| field(5, file.as_ref()))
+        .collect()
+}
+
+/// Small files.
+pub struct Shelf {
+    /// Of different degrees, with no comparison, one, or more.
+    pub accepted: Vec<Vec<u8>>,
+    /// With every number from 1 to 13, in this order, from 7 on also after a
+    /// comparison.
+    pub refused: Vec<Vec<u8>>,
+}
+
+/// [a:τ][x:a]⟨x⟩[y:a]y.
+const ONE_PAIR: [u8; 9] = [0xff, 0, 0xff, 1, 0xfe, 1, 0xff, 2, 1];
+/// [a:τ][x:a]⟨a⟩[b:τ]⟨x⟩[y:b]y: the second pair needs a right step.
+const TWO_PAIRS: [u8; 13] = [0xff, 0, 0xff, 1, 0xfe, 2, 0xff, 0, 0xfe, 2, 0xff, 1, 1];
+
+pub fn shelf() -> &'static Shelf {
+    static SHELF: OnceLock<Shelf> = OnceLock::new();
+    SHELF.get_or_init(|| {
+        let plain = |term: &[u8], groups: usize| file(term, &empty_groups(groups));
+        let last_right = |term: &[u8], groups: usize, kind: u8| {
+            let mut groups = empty_groups(groups);
+            if let Some(last) = groups.last_mut() {
+                last.right.push(Step { kind, place: 0 });
+            }
+            file(term, &groups)
+        };
+        // [τ], so many times ⟨1⟩[τ], and the end.
+        let pairs = |n: usize, end: &[u8]| {
+            let term = joined(&[&[0xff, 0], &times(n, &[0xfe, 1, 0xff, 0]), end]);
+            plain(&term, n)
+        };
+        let deep = |n: usize, end: u8| joined(&[&times(n, &[0xff, 0]), &[end]]);
+        Shelf {
+            accepted: vec![
+                plain(&[0], 0),
+                plain(&[0xff, 0, 1], 0),
+                plain(&ONE_PAIR, 1),
+                last_right(&TWO_PAIRS, 2, LOCAL),
+                plain(&[0xff, 0, 0xff, 0xff, 1, 2, 0xff, 2, 0xfe, 1, 2], 1),
+                pairs(5, &[1]),
+                plain(&nested(20), 0),
+            ],
+            refused: vec![
+                vec![],
+                vec![1, 0, 2, 0],
+                vec![2, 0, 0],
+                set(&[plain(&[0], 0)]),
+                plain(&[0xff, 0], 0),
+                plain(&[0; 4097], 0),
+                plain(&[0xff, 0, 2], 0),
+                plain(&deep(254, 0), 0),
+                plain(&[0xfe, 0, 0xff, 0, 0], 0),
+                pairs(4, &[0xfe, 0, 0xff, 0, 0]),
+                plain(&[0xfe, 0, 0], 0),
+                pairs(2, &[0xfe, 1, 0]),
+                plain(&ONE_PAIR, 0),
+                plain(&TWO_PAIRS, 1),
+                last_right(&ONE_PAIR, 1, 9),
+                last_right(&TWO_PAIRS, 2, 9),
+                plain(&joined(&[&[0xff, 0xff, 0, 0], &deep(252, 0xfd)]), 0),
+                pairs(3, &joined(&[&[0xff, 0xff, 0, 0], &deep(248, 0xf9)])),
+                plain(&[0xff, 0, 0xff, 1, 0xfe, 1, 0xff, 0, 1], 1),
+                plain(&TWO_PAIRS, 2),
+                plain(&[0], 1),
+                plain(&ONE_PAIR, 2),
+            ],
+        }
+    })
+}
+
+/// Files of nested terms that make a set of so many bytes; at least 14.
+pub fn files_for(mut bytes: usize) -> Vec<Vec<u8>> {
+    // A field is 7 bytes with τ, and 2 more for each time that it is nested.
+    let most = 7 + 2 * 2047;
+    let mut files = Vec::new();
+    while bytes > 0 {
+        let size = match bytes {
+            _ if bytes > most + 14 => most,
+            _ if bytes.is_multiple_of(2) || bytes > most => 7,
+            _ => bytes,
+        };
+        files.push(file(&nested((size - 7) / 2), &[]));
+        bytes -= size;
+    }
+    files
+}
+
+/// A random set, in which this file may stand: mostly small files of the shelf,
+/// of which some may be refused; sometimes damaged, seldom about as long as a
+/// set can be.
+pub fn random_set(rng: &mut Rng, own: &[u8]) -> Vec<u8> {
+    let shelf = shelf();
+    let many = match rng.below(40) {
+        0..=25 => rng.between(1, 5),
+        26..=37 => rng.between(6, 20),
+        38 => rng.between(21, 300),
+        _ => rng.below(2),
+    };
+    let mut files: Vec<&[u8]> = (0..many).map(|_| &rng.pick(&shelf.accepted)[..]).collect();
+    let refused = match rng.below(3) {
+        0 => rng.between(1, 3).min(many),
+        _ => 0,
+    };
+    for _ in 0..refused {
+        files[rng.below(many)] = &rng.pick(&shelf.refused)[..];
+    }
+    if rng.below(4) == 0 {
+        files.insert(rng.below(many + 1), own);
+    }
+    let mut bytes = set(&files);
+    if rng.below(200) == 0 && bytes.len() < 60_000 {
+        let about = rng.between(MAX_SET_BYTES - 2, MAX_SET_BYTES + 2);
+        bytes.extend(set(&files_for(about - bytes.len())));
+    }
+    if rng.below(3) == 0 {
+        damage_set(rng, &mut bytes);
+    }
+    bytes
+}
+
+/// Cuts the set, changes a head or any byte, or puts something after it.
+fn damage_set(rng: &mut Rng, set: &mut Vec<u8>) {
+    let fields = fields_of(set);
+    let head = match fields.is_empty() {
+        true => 0,
+        false => rng.pick(&fields).start,
+    };
+    match rng.below(6) {
+        0 => set.truncate(rng.below(set.len() + 1)),
+        1 => set.truncate(head + rng.below(4)),
+        2 if !fields.is_empty() => set[head] = *rng.pick(&[0, 1, 2, 3, 4, 6, 255]),
+        3 if !fields.is_empty() => {
+            let low = &mut set[head + 2];
+            *low = *rng.pick(&[
+                low.wrapping_add(1),
+                low.wrapping_sub(1),
+                low.wrapping_add(7),
+            ]);
+        }
+        4 if !set.is_empty() => {
+            let at = rng.below(set.len());
+            set[at] = odd_byte(rng);
+        }
+        _ => {
+            let more = rng.between(1, 4);
+            set.extend((0..more).map(|_| *rng.pick(&[0, 0, 1, 5, 6])));
+        }
+    }
+}
+
+/// Where the whole fields are, heads included, whatever their tags.
+pub fn fields_of(set: &[u8]) -> Vec<Range<usize>> {
+    let mut fields = Vec::new();
+    let mut head = 0;
+    while let Some(&[_, high, low]) = set.get(head..head + 3) {
+        let end = head + 3 + usize::from(u16::from_be_bytes([high, low]));
+        if end > set.len() {
+            break;
+        }
+        fields.push(head..end);
+        head = end;
+    }
+    fields
 }

@@ -1,7 +1,7 @@
 //! A reference implementation of the checker of document 01 ("Delta-Lambda
 //! checking with supplied reductions") with document 02's kind 3, printing,
-//! counting and couples, written for clarity: terms are trees that keep their
-//! size, the lists are lifted literally and every state is measured anew.
+//! counting, couples and sets, written for clarity: terms are trees that keep
+//! their size, the lists are lifted literally and every state is measured anew.
 
 pub mod counts;
 pub mod file;
@@ -12,6 +12,7 @@ pub mod normaliser;
 pub mod page;
 pub mod refusal;
 pub mod rng;
+pub mod set;
 pub mod stack;
 pub mod term;
 pub mod walk;
@@ -22,6 +23,7 @@ use frame::{apply, body_outgrown, type_of, Frame, Step};
 use mistakes::{made, Mistake};
 use page::{page, page_length};
 use refusal::*;
+use set::read_set;
 use stack::on_large_stack;
 use std::ops::Range;
 use term::{read_term, Term, MAX_TERM_BYTES};
@@ -81,6 +83,19 @@ pub struct CountAnswer {
     pub accepted: u64,
     pub refused_3: u64,
     pub refused_5: u64,
+}
+
+#[derive(Clone, Copy, PartialEq, Eq, Debug)]
+pub struct SetAnswer {
+    /// How many files if all are accepted; else the number from 0 of the file
+    /// that is refused, 0 if it is the set itself.
+    pub file: usize,
+    pub number: u8,
+    pub place: usize,
+    /// Completed in all files, or in the refused one.
+    pub comparisons: usize,
+    /// As checking the refused file gives it; 0 if there is none.
+    pub degree: u64,
 }
 
 /// Examines a bare term.
@@ -236,6 +251,64 @@ pub fn check_by(apply: Apply, bytes: &[u8]) -> CheckAnswer {
                 degree,
             },
         }
+    })
+}
+
+/// Checks a set: its heads, then its files up to the first that is refused.
+pub fn check_set(bytes: &[u8]) -> SetAnswer {
+    on_large_stack(|| {
+        let files = match read_set(bytes) {
+            Ok(files) => files,
+            Err(Refusal { number, place }) => {
+                let before = || read_set(&bytes[..place]).map_or(0, |files| files.len());
+                return SetAnswer {
+                    file: match made(Mistake::FieldNumberWith16) {
+                        false => 0,
+                        true => before(),
+                    },
+                    number,
+                    place,
+                    comparisons: 0,
+                    degree: 0,
+                };
+            }
+        };
+        let mut numbered: Vec<_> = files.iter().enumerate().collect();
+        if made(Mistake::LastRefusedNamed) {
+            numbered.reverse();
+        }
+        let mut accepted = SetAnswer {
+            file: files.len(),
+            number: 0,
+            place: 0,
+            comparisons: 0,
+            degree: 0,
+        };
+        for (file, part) in numbered {
+            let a = check(match made(Mistake::FileNotCutOff) {
+                false => &bytes[part.clone()],
+                true => &bytes[part.start..],
+            });
+            if a.number != 0 {
+                let more = |mistake: Mistake, more: usize| usize::from(made(mistake)) * more;
+                return SetAnswer {
+                    file: file + more(Mistake::FilesFromOne, 1),
+                    number: a.number,
+                    place: a.place + more(Mistake::PlaceInTheSet, part.start),
+                    comparisons: a.comparisons
+                        + more(Mistake::RefusedAddsToThoseBefore, accepted.comparisons),
+                    degree: a.degree,
+                };
+            }
+            if made(Mistake::ComparisonsOfTheLast) {
+                accepted.comparisons = 0;
+            }
+            if made(Mistake::DegreeOfTheLast) {
+                accepted.degree = a.degree;
+            }
+            accepted.comparisons += a.comparisons;
+        }
+        accepted
     })
 }
 

@@ -83,11 +83,46 @@ pub enum Mistake {
     PartnerInTheFrame,
     /// In a local step an abstractor of the body may take an applicator of W.
     PartnerInW,
+    /// A set's file is checked before the heads after it are read.
+    FilesBeforeHeads,
+    /// Of a set's refused files the last is named.
+    LastRefusedNamed,
+    /// The comparisons of a set's refused file are added to those of the files
+    /// before it.
+    RefusedAddsToThoseBefore,
+    /// The empty set is accepted.
+    EmptySetAccepted,
+    /// The place of 16 is the set's length.
+    PlaceOfTheEnd,
+    /// 16 comes with the field's number.
+    FieldNumberWith16,
+    /// A set's fields after the first may have any tag.
+    LaterTagsNotTested,
+    /// One or two bytes after a set's last field are ignored.
+    ShortRestIgnored,
+    /// A field of no bytes is no file of a set.
+    EmptyFilesSkipped,
+    /// A set's file goes on to the set's end.
+    FileNotCutOff,
+    /// The place of a refused file counts in the set.
+    PlaceInTheSet,
+    /// A set's files are numbered from 1.
+    FilesFromOne,
+    /// An accepted set has the comparisons of its last file.
+    ComparisonsOfTheLast,
+    /// An accepted set has the degree of its last file.
+    DegreeOfTheLast,
+    /// A set of 65,535 bytes is too long.
+    SetLimit,
+    /// A set's first head does not count in its length.
+    FirstHeadNotMeasured,
+    /// A set's heads are tested before its length.
+    SetLengthAfterHeads,
 }
 
 use Mistake::*;
 
-pub const MISTAKES: [Mistake; 37] = [
+pub const MISTAKES: [Mistake; 54] = [
     WaitingNotLifted,
     TakesFromWFirst,
     OutgrownAfterTheRule,
@@ -125,6 +160,23 @@ pub const MISTAKES: [Mistake; 37] = [
     PartnerOutsideTheTrain,
     PartnerInTheFrame,
     PartnerInW,
+    FilesBeforeHeads,
+    LastRefusedNamed,
+    RefusedAddsToThoseBefore,
+    EmptySetAccepted,
+    PlaceOfTheEnd,
+    FieldNumberWith16,
+    LaterTagsNotTested,
+    ShortRestIgnored,
+    EmptyFilesSkipped,
+    FileNotCutOff,
+    PlaceInTheSet,
+    FilesFromOne,
+    ComparisonsOfTheLast,
+    DegreeOfTheLast,
+    SetLimit,
+    FirstHeadNotMeasured,
+    SetLengthAfterHeads,
 ];
 
 #[cfg(not(feature = "mistakes"))]

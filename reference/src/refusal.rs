@@ -15,6 +15,7 @@ pub const BODIES_DIFFER: u8 = 12;
 pub const GROUPS_LEFT: u8 = 13;
 pub const SHORT_BUFFER: u8 = 14;
 pub const TOO_LONG_TO_COUNT: u8 = 15;
+pub const NOT_A_SET: u8 = 16;
 
 /// The number of a condition and its place.
 #[derive(Clone, Copy, PartialEq, Eq, Debug)]

@@ -1,15 +1,15 @@
 -- From a call's answer to the numbers given.
 -- Assumes nothing.
 use Prim.Native.Nat.{ℕ}
-use mathlib.Core.Path.{_≡_, refl, ap, sym, _∙_}
+use mathlib.Core.Path.{_≡_, refl}
 use mathlib.Core.List.{List, [], _∷_}
 use lib.ListN.{length}
 use Rattle.files.specs.File.{FileAnswer}
-use Rattle.calls.specs.Answers.{FileAnswered, Written, nothing, answer, typeSays, stepSays}
+use Rattle.calls.specs.Answers.{FileAnswered, Written, typeSays, stepSays}
 use Rattle.calls.specs.declared.StepAnswer.{StepAnswer}
 use Rattle.calls.specs.declared.TypeAnswer.{TypeAnswer}
 use Rattle.calls.specs.declared.TypeAnswer.the-variants.{Nothing, Answer}
-use Rattle.exports.specs.Numbers.{fileNumbers, noneOf, numbersOf, bufferOf, Given}
+use Rattle.exports.specs.Numbers.{fileNumbers, noneOf, Given}
 
 pub given-file : {n p : ℕ} {part : List ℕ} {a : FileAnswer} → FileAnswered n p part a → n ∷ p ∷ length part ∷ [] ≡ fileNumbers a
 given-file h = rw (h .number-is, h .place-is, h .part-is) refl

@@ -1,6 +1,6 @@
 -- What the answer to a set says.
 -- Assumes nothing.
-use Prim.Native.Nat.{ℕ, zero, suc, _+_, _*_, _≤_, _<_}
+use Prim.Native.Nat.{ℕ, zero, suc, _+_, _≤_, _<_}
 use mathlib.Core.Path.{_≡_, refl, ap, sym, _∙_, subst}
 use mathlib.Core.Bool.{Bool, true, false, cond, true≢false}
 use mathlib.Core.List.{List, [], _∷_, _++_}
@@ -12,14 +12,14 @@ use borrow.Author.Tests.{eqb-true, eq-eqb}
 use Rattle.calculus.specs.Rules.{Group}
 use Rattle.code.specs.Code.{Bytes, encode}
 use Rattle.code.proofs.RoundTrip.{bytes-drop}
-use Rattle.fields.specs.Fields.{Sequence, broken, sequence}
+use Rattle.fields.specs.Fields.{Sequence}
 use Rattle.fields.specs.Files.{writeField, writeSteps, writeGroups, writeFile}
 use Rattle.files.specs.Check.{checkFile}
 use Rattle.files.specs.Claims.{Accepted}
 use Rattle.files.proofs.Answers.{says as file-says, bytes-take}
 use Rattle.sets.specs.declared.SetAnswer.{SetAnswer}
-use Rattle.sets.specs.Sets.{refusedFile, refusedSet, acceptedSet, checkFiles, checkFrom, readSet, checkSet}
-use Rattle.sets.specs.Claims.{writeSet, HoldsFiles, FileAccepted, AllAccepted, none, next, SetAccepted, SetRefused, too-long, not-a-set, one-file, AcceptedSets, SetChecked}
+use Rattle.sets.specs.Sets.{refusedFile, acceptedSet, checkFiles, checkFrom, checkSet}
+use Rattle.sets.specs.Claims.{writeSet, HoldsFiles, FileAccepted, FileRefused, AllAccepted, none, next, SetAccepted, SetRefused, too-long, not-a-set, one-file, AcceptedSets, SetChecked}
 use Rattle.sets.proofs.Heads.{SetView, over, cut, files, set-view, holding}
 
 -- THE FILES
@@ -32,12 +32,12 @@ rest-bytes f w b = subst Bytes (drop-append-seam f w) (bytes-drop (length f) (f 
 -- they are all accepted, or one is the first that is not
 data View (i c : ℕ) (fs : List (List ℕ)) : SetAnswer → Type 0 where
   all : {x n g k m : ℕ} → AllAccepted fs x n g → k ≡ i + length fs → m ≡ c + x → View i c fs (acceptedSet k m)
-  one : (j : ℕ) {k : ℕ} → k ≡ i + j → j < length fs → ((k : ℕ) → k < j → FileAccepted fs k) → (FileAccepted fs j → ⊥)
+  one : (j : ℕ) {k : ℕ} → k ≡ i + j → j < length fs → ((k : ℕ) → k < j → FileAccepted fs k) → (FileAccepted fs j → ⊥) → FileRefused fs j
       → View i c fs (refusedFile k (checkFile (getD fs j [])))
 
 also : {i c : ℕ} {f : List ℕ} {fs : List (List ℕ)} {a : SetAnswer} → Bytes f → checkFile f .number ≡ 0 → View (i + 1) (c + checkFile f .comparisons) fs a → View i c (f ∷ fs) a
 also {f = f} b e (all {k = k} {m = m} d p q) = all {k = k} {m = m} (next e (file-says f b .0 e) d) (omega arith) (omega arith)
-also {f = f} {fs = fs} b e (one j {k = k} p l h n) = one (suc j) {k = k} (omega arith) (omega arith) before n
+also {f = f} {fs = fs} b e (one j {k = k} p l h n r) = one (suc j) {k = k} (omega arith) (omega arith) before n r
   where
     before : (i : ℕ) → i < suc j → FileAccepted (f ∷ fs) i
     before zero m = e
@@ -51,7 +51,9 @@ view (f ∷ fs) b i c = go (eqb (checkFile f .number) 0) refl (view fs (rest-byt
     go : (x : Bool) → eqb (checkFile f .number) 0 ≡ x → View (i + 1) (c + checkFile f .comparisons) fs (checkFiles (i + 1) (c + checkFile f .comparisons) fs)
         → View i c (f ∷ fs) (cond x (checkFiles (i + 1) (c + checkFile f .comparisons) fs) (refusedFile i (checkFile f)))
     go true e v = also (first-bytes f (writeSet fs) b) (eqb-true _ _ e) v
-    go false e v = one 0 {k = i} (omega arith) (omega arith) (λ k l. absurd (omega arith)) (λ h. true≢false (sym (eq-eqb (checkFile f .number) 0 h) ∙ e))
+    go false e v =
+        let n : checkFile f .number ≡ 0 → ⊥ = λ h. true≢false (sym (eq-eqb (checkFile f .number) 0 h) ∙ e) in
+        one 0 {k = i} (omega arith) (omega arith) (λ k l. absurd (omega arith)) n (file-says f (first-bytes f (writeSet fs) b) .1 n)
 
 sums : {fs : List (List ℕ)} {c n g : ℕ} → AllAccepted fs c n g → (c ≡ n) × (c ≡ g)
 sums none = (refl, refl)
@@ -72,9 +74,9 @@ files-say {s} {fs} h (all {x = x} {n = n} {g = g} {k = k} {m = m} d p q) =
     let z : m ≡ x = omega arith in
     let y : k ≡ length fs = omega arith in
     (λ e. record { files = fs; holds = h; answer = ap (λ (i : ℕ). acceptedSet i m) y; all-applicators = n; all-groups = g; each = rw z d; all-compared = z ∙ r .0; group-each = z ∙ r .1 }, λ e. absurd (e refl))
-files-say {s} {fs} h (one j {k = k} p l b n) =
+files-say {s} {fs} h (one j {k = k} p l b n r) =
     let y : k ≡ j = omega arith in
-    (λ e. absurd (n e), λ e. rw y (one-file fs j h l b n))
+    (λ e. absurd (n e), λ e. rw y (one-file fs j h l b n r))
 
 says : (s : List ℕ) → Bytes s → Says s (checkSet s)
 unfolding checkSet checkFrom
@@ -88,7 +90,7 @@ says s b = go (set-view s b)
 -- every file is accepted, and so is the set
 all-in : {i c : ℕ} {fs : List (List ℕ)} {a : SetAnswer} → View i c fs a → ((j : ℕ) → j < length fs → FileAccepted fs j) → a .number ≡ 0
 all-in (all d p q) h = refl
-all-in (one j p l b n) h = absurd (n (h j l))
+all-in (one j p l b n r) h = absurd (n (h j l))
 
 pub accepted-sets : AcceptedSets
 unfolding checkSet checkFrom

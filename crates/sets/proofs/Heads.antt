@@ -1,14 +1,14 @@
 -- The heads of a set: which files stand in it, and where a field is not whole.
 -- Assumes nothing.
-use Prim.Native.Nat.{ℕ, zero, suc, _+_, _%_, _≤_, _<_}
-use mathlib.Core.Path.{_≡_, refl, ap, ap₂, sym, _∙_, subst}
+use Prim.Native.Nat.{ℕ, _+_, _≤_, _<_}
+use mathlib.Core.Path.{_≡_, refl, ap, ap₂, sym, _∙_}
 use mathlib.Core.Bool.{Bool, true, false, cond, true≢false}
 use mathlib.Core.List.{List, [], _∷_, _++_, append-assoc}
 use native.Mathlib.Omega.{arith}
 use lib.ListN.{length, take, drop, length-append, length-drop}
 use lib.Seq.{take-append-seam}
 use lib.Dec.{ltb, eqb}
-use borrow.Author.Tests.{lt-ltb, le-ltb, ltb-true, ltb-false, eqb-true, ne-eqb}
+use borrow.Author.Tests.{le-ltb, ltb-true, ltb-false, eqb-true, ne-eqb}
 use Rattle.code.specs.Code.{Bytes}
 use Rattle.fields.specs.declared.Field.{Field}
 use Rattle.fields.specs.declared.Field.the-variants.{Fault, End}
@@ -88,7 +88,7 @@ left s b {at} i (more {m = m} h e f q) =
     let g = file-ended s at e in
     let d = field-only s (record { small = b }) (bodyAt s at) (g .is-whole) refl in
     rw q (with-file (bodyAt s at) (d ∙ ap (λ (k : ℕ). writeField 5 (bodyAt s at) ++ drop k s) (sym (g .is-end))) (omega (arith, body-length s at (g .is-whole), g .is-end))
-        (left s b (omega (arith, g .is-end, g .is-whole .body)) f))
+    (left s b (omega (arith, g .is-end, g .is-whole .body)) f))
 
 -- files that are written are found
 stand : (s : List ℕ) (fs : List (List ℕ)) {at : ℕ} → at ≤ length s → drop at s ≡ writeSet fs → Found (fileEnd s) (bodyAt s) (length s) at (sequence fs)

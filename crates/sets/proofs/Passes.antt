@@ -3,20 +3,18 @@
 use Prim.Native.Nat.{ℕ, _+_, _≤_, _<_}
 use mathlib.Core.Path.{_≡_, refl, ap, sym, _∙_, subst}
 use mathlib.Core.Bool.{Bool, true, false, cond}
-use mathlib.Core.List.{List, [], _∷_}
+use mathlib.Core.List.{List, _∷_}
 use native.Mathlib.Omega.{arith}
 use lib.ListN.{length}
 use lib.Dec.{ltb, eqb}
 use borrow.Author.Tests.{lt-ltb, le-ltb, eq-eqb, ne-eqb}
-use Rattle.fields.specs.declared.Field.{Field}
 use Rattle.fields.specs.declared.Field.the-variants.{Fault, End}
 use Rattle.fields.specs.Fields.{bodyEnd, bodyAt, fieldAt, Whole, Sequence, broken, sequence, firstThen}
 use Rattle.fields.proofs.Laws.{Found, done, stop, more}
 use Rattle.files.specs.Check.{checkFile}
 use Rattle.checker.specs.Answer.{CheckedAs}
 use Rattle.checker.specs.declared.CheckAnswer.{CheckAnswer}
-use Rattle.sets.specs.declared.SetAnswer.{SetAnswer}
-use Rattle.sets.specs.Sets.{longestSet, orNotASet, fileEnd, filesFrom, readSet, refusedFile, refusedSet, acceptedSet, checkFiles, checkFrom, checkSet}
+use Rattle.sets.specs.Sets.{longestSet, orNotASet, fileEnd, filesFrom, readSet, refusedSet, acceptedSet, checkFiles, checkFrom, checkSet}
 use Rattle.sets.specs.Contracts.{headsOf, WholeFrom}
 use Rattle.sets.proofs.Heads.{end-not-fault, file-found, file-ended, files-found, files-are, body-length}
 

@@ -29,6 +29,9 @@ pub record HoldsFiles (s : List ℕ) (fs : List (List ℕ)) : Type 0 where
 abbrev pub FileAccepted : List (List ℕ) → ℕ → Type 0
 FileAccepted fs i = checkFile (getD fs i []) .number ≡ accepted
 
+abbrev pub FileRefused : List (List ℕ) → ℕ → Type 0
+FileRefused fs i = let a = checkFile (getD fs i []) in Refused (getD fs i []) (a .number) (a .comparisons) (a .degree)
+
 -- Every one of fs is accepted, with all that this says of a file: among it, its term is correct under the plain rules. The comparisons, the
 -- applicators of the terms and the groups of the files, each added up.
 pub data AllAccepted : List (List ℕ) → (comparisons applicators groups : ℕ) → Type 0 where
@@ -58,9 +61,9 @@ pub data SetRefused (s : List ℕ) : SetAnswer → Type 0 where
   too-long : longestSet < length s → SetRefused s (refusedSet tooLong 0)
   not-a-set : (fs : List (List ℕ)) (rest : List ℕ) → length s ≤ longestSet → s ≡ writeSet fs ++ rest → NoField fs rest
       → SetRefused s (refusedSet notASet (length (writeSet fs)))
-  -- the first file that is refused, all before it accepted
-  one-file : (fs : List (List ℕ)) (i : ℕ) → HoldsFiles s fs → i < length fs → ((j : ℕ) → j < i → FileAccepted fs j)
-      → (FileAccepted fs i → ⊥) → SetRefused s (refusedFile i (checkFile (getD fs i [])))
+  -- the first file that is refused, all before it accepted, with its own answer and all that this says of a file
+  one-file : (fs : List (List ℕ)) (i : ℕ) → HoldsFiles s fs → i < length fs → ((j : ℕ) → j < i → FileAccepted fs j) → (FileAccepted fs i → ⊥)
+      → FileRefused fs i → SetRefused s (refusedFile i (checkFile (getD fs i [])))
 
 -- 1. Accepted exactly if there is a file, every field is whole with tag 5, and every file is accepted by 'check a file'.
 pub record AcceptedSets : Type 0 where

@@ -5,15 +5,15 @@ use mathlib.Core.List.{map}
 use Rattle.calculus.specs.Terms.{size, lift, liftIndex}
 use Rattle.calculus.specs.Frames.{domain, depth, entryAt}
 use Rattle.calculus.specs.Types.{degree, degreeIn, degrees, nth, type, typeOfVar}
-use Rattle.calculus.specs.Steps.{reachOf, stepBy, step, stepOf, stepAt, stepHere, kindIn, reduceVar, lowerVar, both, lower, unused, substituteVar, substitute, remove, fill, ifFar, atPartner, mapOutcome, entryOf, unmatched}
+use Rattle.calculus.specs.Steps.{reachOf, stepBy, stepOf, stepAt, stepHere, kindIn, reduceVar, lowerVar, both, lower, unused, substituteVar, substitute, remove, fill, ifFar, atPartner, mapOutcome, entryOf, unmatched}
 use Rattle.calculus.specs.Rules.{liftAll, typed, onePassNext}
 use Rattle.calculus.specs.Walks.{copiedStates, ownStates, frameStates, statesOf}
 use Rattle.code.specs.Code.{encode}
 use Rattle.code.specs.Scope.{scope}
 use Rattle.examine.specs.Inspect.{termAnswer}
 use Rattle.verdict.specs.Bounds.{stateFits, bodyFits, stateSize, stateScope, frameSize, frameScope, waitingSize, waitingScope}
-use Rattle.verdict.specs.Verdict.{checkTermBy, checkTerm, finishBy, finish, runBy, run, onward, turnBy, turn, stepped, replaced, toTurn, withType, withGroup, sideFrom, sideOf, formsMeet, placed, last, groundOf, turned, completed, identical, states, steps, number, placeOf}
-use Rattle.files.specs.Check.{checkFileBy, checkFile}
+use Rattle.verdict.specs.Verdict.{checkTermBy, finishBy, runBy, onward, turnBy, stepped, replaced, toTurn, withType, withGroup, sideFrom, sideOf, formsMeet, placed, last, groundOf, turned, completed, identical, states, steps, number, placeOf}
+use Rattle.files.specs.Check.{checkFileBy}
 use Rattle.calls.specs.Answers.{typeAnswer, stepAnswer}
 use Rattle.printing.specs.Page.{printAnswer}
 use Rattle.sets.specs.Sets.{checkSet}

@@ -6,14 +6,15 @@
 //!   type N             number place length BUFFER, or none BUFFER
 //!   step KIND PLACE N  number place length BUFFER
 //!   print N            number place length BUFFER
+//!   set                file-number number place comparisons degree
 //!   count LENGTH       number accepted refused-3 refused-5
 //!
 //! N is the buffer's length; it is filled with aa first and printed whole in
 //! hexadecimal.
 
 use reference::{
-    apply_step, check, count_strings, examine_file, examine_term, print_term, write_type,
-    StepAnswer, TypeAnswer,
+    apply_step, check, check_set, count_strings, examine_file, examine_term, print_term,
+    write_type, StepAnswer, TypeAnswer,
 };
 use std::io::Read;
 use std::process::ExitCode;
@@ -35,7 +36,7 @@ fn main() -> ExitCode {
         }
         None => {
             eprintln!(
-                "usage: reference [term | file | type N | step KIND PLACE N | print N] < input"
+                "usage: reference [term | file | type N | step KIND PLACE N | print N | set] < input"
             );
             eprintln!("       reference count LENGTH");
             ExitCode::FAILURE
@@ -80,6 +81,13 @@ fn answer(arguments: &[&str], input: &[u8]) -> Option<String> {
             let mut buffer = vec![0xaa; length.parse().ok()?];
             let a = print_term(input, &mut buffer);
             Some(with_buffer(step_answer(a), &buffer))
+        }
+        ["set"] => {
+            let a = check_set(input);
+            Some(format!(
+                "{} {} {} {} {}",
+                a.file, a.number, a.place, a.comparisons, a.degree
+            ))
         }
         ["count", length] => {
             let a = count_strings(length.parse().ok()?);

@@ -97,6 +97,12 @@ pub fn counted(length: usize) -> (u8, u64, u64, u64) {
     (a.number, a.accepted, a.refused_3, a.refused_5)
 }
 
+/// File number, number, place, comparisons, degree.
+pub fn set_checked(set: &[u8]) -> (usize, u8, usize, usize, u64) {
+    let a = check_set(set);
+    (a.file, a.number, a.place, a.comparisons, a.degree)
+}
+
 /// The result with aa after it up to the length.
 pub fn padded(result: &str, length: usize) -> Vec<u8> {
     let mut bytes = hex(result);
