@@ -197,7 +197,7 @@ bytes-append : (a : List ℕ) {b : List ℕ} → InBytes a → InBytes b → InB
 bytes-append [] p q = q
 bytes-append (x ∷ a) p q = byte-more (p .small 0) (bytes-append a (record { small = λ i. p .small (suc i) }) q)
 
-field-bytes : (tag : ℕ) (b : List ℕ) {w : List ℕ} → tag < 256 → length b < 65536 → InBytes b → InBytes w → InBytes (writeField tag b ++ w)
+pub field-bytes : (tag : ℕ) (b : List ℕ) {w : List ℕ} → tag < 256 → length b < 65536 → InBytes b → InBytes w → InBytes (writeField tag b ++ w)
 field-bytes tag b t l p q = byte-more t (byte-more (omega arith) (byte-more (omega arith) (bytes-append b p q)))
 
 steps-bytes : {xs : List Step} → StepsFit xs → InBytes (writeSteps xs)

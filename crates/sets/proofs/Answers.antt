@@ -13,12 +13,13 @@ use Rattle.calculus.specs.Rules.{Group}
 use Rattle.code.specs.Code.{Bytes, encode}
 use Rattle.code.proofs.RoundTrip.{bytes-drop}
 use Rattle.fields.specs.Fields.{Sequence}
-use Rattle.fields.specs.Files.{writeField, writeSteps, writeGroups, writeFile}
+use Rattle.fields.specs.Files.{writeField, writeSteps, writeGroups, writeFile, InBytes}
+use Rattle.fields.proofs.Written.{field-bytes}
 use Rattle.files.specs.Check.{checkFile}
 use Rattle.files.specs.Claims.{Accepted}
 use Rattle.files.proofs.Answers.{says as file-says, bytes-take}
 use Rattle.sets.specs.declared.SetAnswer.{SetAnswer}
-use Rattle.sets.specs.Sets.{refusedFile, acceptedSet, checkFiles, checkFrom, checkSet}
+use Rattle.sets.specs.Sets.{longestSet, refusedFile, acceptedSet, checkFiles, checkFrom, checkSet}
 use Rattle.sets.specs.Claims.{writeSet, HoldsFiles, FileAccepted, FileRefused, AllAccepted, none, next, SetAccepted, SetRefused, too-long, not-a-set, one-file, AcceptedSets, SetChecked}
 use Rattle.sets.proofs.Heads.{SetView, over, cut, files, set-view, holding}
 
@@ -32,7 +33,7 @@ rest-bytes f w b = subst Bytes (drop-append-seam f w) (bytes-drop (length f) (f 
 -- they are all accepted, or one is the first that is not
 data View (i c : ℕ) (fs : List (List ℕ)) : SetAnswer → Type 0 where
   all : {x n g k m : ℕ} → AllAccepted fs x n g → k ≡ i + length fs → m ≡ c + x → View i c fs (acceptedSet k m)
-  one : (j : ℕ) {k : ℕ} → k ≡ i + j → j < length fs → ((k : ℕ) → k < j → FileAccepted fs k) → (FileAccepted fs j → ⊥) → FileRefused fs j
+  one : (j : ℕ) {k : ℕ} → k ≡ i + j → j < length fs → ((h : ℕ) → h < j → FileAccepted fs h) → (FileAccepted fs j → ⊥) → FileRefused fs j
       → View i c fs (refusedFile k (checkFile (getD fs j [])))
 
 also : {i c : ℕ} {f : List ℕ} {fs : List (List ℕ)} {a : SetAnswer} → Bytes f → checkFile f .number ≡ 0 → View (i + 1) (c + checkFile f .comparisons) fs a → View i c (f ∷ fs) a
@@ -92,9 +93,20 @@ all-in : {i c : ℕ} {fs : List (List ℕ)} {a : SetAnswer} → View i c fs a �
 all-in (all d p q) h = refl
 all-in (one j p l b n r) h = absurd (n (h j l))
 
+-- what is packed is bytes
+packed : (fs : List (List ℕ)) → length (writeSet fs) ≤ longestSet → ((i : ℕ) → i < length fs → InBytes (getD fs i [])) → InBytes (writeSet fs)
+unfolding writeSet
+packed [] l b = record { small = λ i. omega arith }
+packed (f ∷ fs) l b =
+    let n = length-append f (writeSet fs) in
+    field-bytes 5 f (omega arith) (omega arith) (b 0 (omega arith)) (packed fs (omega arith) (λ i h. b (suc i) (omega arith)))
+
 pub accepted-sets : AcceptedSets
 unfolding checkSet checkFrom
-accepted-sets = record { exactly = λ s b. (only s b, λ x. if-all s b (x .0) (x .1) (x .2)) }
+accepted-sets = record {
+  exactly = λ s b. (only s b, λ x. if-all s b (x .0) (x .1) (x .2));
+  packed = λ fs n l b. (packed fs l b .small, record { fits = l; some-file = n; written = refl });
+}
   where
     only : (s : List ℕ) → Bytes s → checkSet s .number ≡ 0 → (fs : List (List ℕ)) × HoldsFiles s fs × ((i : ℕ) → i < length fs → FileAccepted fs i)
     only s b e = let a = says s b .0 e in (a .files, a .holds, each (a .each))

@@ -8,7 +8,7 @@ use lib.ListN.{length, getD}
 use Rattle.calculus.specs.Terms.{applicators}
 use Rattle.code.specs.Refusals.{accepted, tooLong, notASet}
 use Rattle.code.specs.Code.{Bytes}
-use Rattle.fields.specs.Files.{writeField}
+use Rattle.fields.specs.Files.{writeField, InBytes}
 use Rattle.files.specs.Check.{checkFile}
 use Rattle.files.specs.Claims.{Accepted, Refused}
 use Rattle.sets.specs.declared.SetAnswer.{SetAnswer}
@@ -65,10 +65,13 @@ pub data SetRefused (s : List ℕ) : SetAnswer → Type 0 where
   one-file : (fs : List (List ℕ)) (i : ℕ) → HoldsFiles s fs → i < length fs → ((j : ℕ) → j < i → FileAccepted fs j) → (FileAccepted fs i → ⊥)
       → FileRefused fs i → SetRefused s (refusedFile i (checkFile (getD fs i [])))
 
--- 1. Accepted exactly if there is a file, every field is whole with tag 5, and every file is accepted by 'check a file'.
 pub record AcceptedSets : Type 0 where
+  -- accepted exactly if there is a file, every field is whole with tag 5, and every file is accepted by 'check a file'
   pub exactly : (s : List ℕ) → Bytes s
       → (checkSet s .number ≡ accepted) ↔ ((fs : List (List ℕ)) × HoldsFiles s fs × ((i : ℕ) → i < length fs → FileAccepted fs i))
+  -- and every choice of files gives such a string of bytes, if it is not too long
+  pub packed : (fs : List (List ℕ)) → 0 < length fs → length (writeSet fs) ≤ longestSet → ((i : ℕ) → i < length fs → InBytes (getD fs i []))
+      → Bytes (writeSet fs) × HoldsFiles (writeSet fs) fs
 
 -- The contract of the call 'check a set': the five numbers are those of the definition; and what the acceptance of s means, and its refusal.
 pub record SetChecked (s : List ℕ) (r : SetAnswer) : Type 0 where

@@ -55,6 +55,7 @@ checkFiles i c (f ∷ fs) =
     let a = checkFile f in
     cond (eqb (a .number) accepted) (checkFiles (i + 1) (c + a .comparisons) fs) (refusedFile i a)
 
+-- What is read of a set, or from a place in it on: a refusal, or the files.
 unfoldable pub checkFrom : (i c : ℕ) → Sequence (List ℕ) → SetAnswer
 checkFrom i c (broken n p) = refusedSet n p
 checkFrom i c (sequence fs) = checkFiles i c fs
