@@ -83,8 +83,9 @@ void bijterne_check(const uint8_t *s, size_t n, uint64_t answer[4]);
 
 /* Checks a set: one or more fields, each with tag 5, two bytes for its length (high byte first), and a file. First the set's own
  * refusals, 4 (over 65,535 bytes) and 16, with 0 in answer[0], answer[3] and answer[4]; then the files one after the other, up to
- * the first that is refused: numbers 1 to 13. answer: the refused file's number, from 0, and the four numbers of bijterne_check for
- * it; or, if all are accepted, how many files, 0, 0, the comparisons in all files, 0. It needs the stack of bijterne_check. */
+ * the first that is refused: numbers 1 to 13 (4: its term is over 4,096 bytes). answer: the refused file's number, from 0, and the
+ * four numbers of bijterne_check for it; or, if all are accepted, how many files, 0, 0, the comparisons in all files, 0. It needs
+ * the stack of bijterne_check. */
 void bijterne_check_set(const uint8_t *s, size_t n, uint64_t answer[5]);
 
 #ifdef __cplusplus

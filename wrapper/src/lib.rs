@@ -85,8 +85,8 @@ pub struct CheckAnswer {
     pub degree: usize,
 }
 
-/// Of `check_set`. The set's own refusals are `TOO_LONG` and `NOT_A_SET`, with 0 for the file, the comparisons and the degree; any
-/// other is that of the first file that is refused.
+/// Of `check_set`. The set's own refusals are `TOO_LONG`, if it has over `LONGEST_SET` bytes, and `NOT_A_SET`, with 0 for the file,
+/// the comparisons and the degree; any other is that of the first file that is refused (`TOO_LONG` then says that its term is).
 #[derive(Clone, Copy, Debug, PartialEq, Eq)]
 pub struct SetAnswer {
     /// How many files, if all are accepted; else the refused file's number, from 0.

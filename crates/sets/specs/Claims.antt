@@ -19,13 +19,13 @@ unfoldable pub writeSet : List (List ℕ) → List ℕ
 writeSet [] = []
 writeSet (f ∷ fs) = writeField fileTag f ++ writeSet fs
 
--- s is a set with the files fs: there is a file, every field is whole with tag 5, and nothing else stands in it.
+-- s is a set with the files fs: it is not too long, there is a file, every field is whole with tag 5, and nothing else stands in it.
 pub record HoldsFiles (s : List ℕ) (fs : List (List ℕ)) : Type 0 where
   pub fits : length s ≤ longestSet
   pub some-file : 0 < length fs
   pub written : s ≡ writeSet fs
 
--- The file with a number is accepted by 'check a file'.
+-- The file with a number is accepted by 'check a file'; and what its refusal says.
 abbrev pub FileAccepted : List (List ℕ) → ℕ → Type 0
 FileAccepted fs i = checkFile (getD fs i []) .number ≡ accepted
 
