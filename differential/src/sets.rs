@@ -58,17 +58,18 @@ fn heads() -> Vec<Vec<u8>> {
     all
 }
 
-/// Each refused file of the shelf at each place of sets of 1 to 8 files.
+/// Each refused file of the shelf at each place of sets of 1 to 8 files; and one at each place of 300, the refused files in turn.
 fn refused_at_each_place() -> Vec<Vec<u8>> {
-    let mut all = Vec::new();
-    for refused in &shelf().refused {
-        for (many, at) in (1..=8).flat_map(|many| (0..many).map(move |at| (many, at))) {
-            let mut files = accepted(many);
-            files[at] = refused;
-            all.push(set(&files));
-        }
-    }
-    all
+    let refused = &shelf().refused;
+    let with = |many: usize, at: usize, file: &'static [u8]| {
+        let mut files = accepted(many);
+        files[at] = file;
+        set(&files)
+    };
+    let places = || (1..=8).flat_map(|many| (0..many).map(move |at| (many, at)));
+    let each = refused.iter().flat_map(|file| places().map(move |(many, at)| with(many, at, file)));
+    let in_turn = refused.iter().cycle().take(300).enumerate().map(|(at, file)| with(300, at, file));
+    each.chain(in_turn).collect()
 }
 
 /// Every two refused files of the shelf, in both orders, with accepted files before, between and after.
