@@ -102,16 +102,16 @@ found s from e w h = go (firstZero (drop from s) 1 from) (firstZero-ended (drop 
         (t, record { rest = r; bytes = rw append-nil at x; coded = f; place = sym z ∙ q ∙ ap (from +_) (rw append-nil (length-encode t)) })
 
 -- ---- A whole string.
-nil : (r : List ℕ) → length r ≡ 0 → r ≡ []
-nil [] h = refl
-nil (x ∷ r) h = absurd (omega arith)
+pub no-length : {A : Type 0} (l : List A) → length l ≡ 0 → l ≡ []
+no-length [] h = refl
+no-length (x ∷ l) h = absurd (omega arith)
 
 module _ (s : List ℕ) (w : Bytes s) where
   whole-decode : termEnd s 0 ≡ some (length s) → (t : Term) × (decode s ≡ some t)
   whole-decode h =
       let f = found s 0 (length s) w h in
       let l = length-append (encode (f .0)) (f .1 .rest) in
-      let e : f .1 .rest ≡ [] = nil (f .1 .rest) (omega (arith, f .1 .place, l, ap length (f .1 .bytes), length-encode (f .0))) in
+      let e : f .1 .rest ≡ [] = no-length (f .1 .rest) (omega (arith, f .1 .place, l, ap length (f .1 .bytes), length-encode (f .0))) in
       (f .0, ap decode (f .1 .bytes ∙ rw (e, append-nil (encode (f .0)))) ∙ decode-encode (f .1 .coded))
 
   decode-whole : (t : Term) × (decode s ≡ some t) → termEnd s 0 ≡ some (length s)

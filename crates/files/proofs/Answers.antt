@@ -27,6 +27,7 @@ use Rattle.code.specs.Limits.{longestFile, longestTerm, longestState, mostAbstr
 use Rattle.code.specs.Refusals.{accepted, stepNotPossible}
 use Rattle.code.specs.Code.{Bytes, encode}
 use Rattle.code.specs.Scope.{scope}
+use Rattle.code.proofs.FirstZero.{no-length}
 use Rattle.code.proofs.RoundTrip.{decode-encode, encode-decode, encode-bytes, bytes-drop}
 use Rattle.code.proofs.Scope.{closed-coded}
 use Rattle.fields.specs.Fields.{GroupAt, Fields, readFile, termBytes}
@@ -113,10 +114,6 @@ Says s a = (a .number ≡ 0 → Accepted s (a .comparisons) (a .degree)) × ((a 
 
 drop-none : {A : Type 0} (n : ℕ) (l : List A) → drop n l ≡ [] → length l ≤ n
 drop-none n l h = omega (arith, length-drop n l, ap length h)
-
-no-length : {A : Type 0} (l : List A) → length l ≡ 0 → l ≡ []
-no-length [] h = refl
-no-length (x ∷ l) h = let z : ⊥ = omega arith in absurd z
 
 -- of a file that opens
 module _ (s : List ℕ) (t : Term) (e : ℕ) (gs : List GroupAt) (o : Opens s t e gs) (b : Bytes s) where

@@ -10,6 +10,7 @@ use lib.Seq.{take-append-seam}
 use lib.Dec.{ltb, eqb}
 use borrow.Author.Tests.{le-ltb, ltb-true, ltb-false, eqb-true, ne-eqb}
 use Rattle.code.specs.Code.{Bytes}
+use Rattle.code.proofs.FirstZero.{no-length}
 use Rattle.fields.specs.declared.Field.{Field}
 use Rattle.fields.specs.declared.Field.the-variants.{Fault, End}
 use Rattle.fields.specs.Fields.{word, bodyEnd, bodyAt, fieldAt, Whole, Sequence, broken, sequence, firstThen}
@@ -20,7 +21,7 @@ use Rattle.sets.specs.Sets.{longestSet, orNotASet, fileEnd, filesFrom, r
 use Rattle.sets.specs.Claims.{writeSet, HoldsFiles, NoField}
 
 -- ONE FIELD
-pub file-ends : (s : List ℕ) (at : ℕ) → Whole 5 1 s at → fileEnd s at ≡ End (bodyEnd s at)
+file-ends : (s : List ℕ) (at : ℕ) → Whole 5 1 s at → fileEnd s at ≡ End (bodyEnd s at)
 unfolding fileEnd orNotASet
 file-ends s at w = ap (orNotASet at) (whole-ends 5 1 s at w)
 
@@ -64,7 +65,7 @@ no-field s at e f w q =
     end-not-fault (sym (file-ends s at h) ∙ e)
 
 -- what the fields from a place on leave: a place where none is whole, or files and nothing else
-pub data Left (s : List ℕ) (at : ℕ) : Sequence (List ℕ) → Type 0 where
+data Left (s : List ℕ) (at : ℕ) : Sequence (List ℕ) → Type 0 where
   bad : (fs : List (List ℕ)) (rest : List ℕ) {p : ℕ} → drop at s ≡ writeSet fs ++ rest → p ≡ at + length (writeSet fs)
       → ((f w : List ℕ) → rest ≡ writeField 5 f ++ w → ⊥) → 0 < length rest → Left s at (broken 16 p)
   good : {fs : List (List ℕ)} → drop at s ≡ writeSet fs → Left s at (sequence fs)
@@ -102,10 +103,6 @@ stand s (f ∷ fs) {at} i h =
     more {at = at} (omega (arith, k .head)) (file-ends s at k) (stand s fs (k .body) (w .rest .is)) (ap (λ (l : List ℕ). sequence (l ∷ fs)) (sym same))
 
 -- THE SET
-no-length : {A : Type 0} (l : List A) → length l ≡ 0 → l ≡ []
-no-length [] h = refl
-no-length (x ∷ l) h = let z : ⊥ = omega arith in absurd z
-
 -- what a set is read as: over the length; not a set; or files
 pub data SetView (s : List ℕ) : Sequence (List ℕ) → Type 0 where
   over : longestSet < length s → SetView s (broken 4 0)

@@ -36,7 +36,7 @@ module _ (s : List ℕ) where
   unfolding headsOf orNotASet
   head-faulty {at} h e = ap (headsOf (length s)) (files-are s (stop {at = at} h (file-found s at e)))
 
-  pub next-file : {at m : ℕ} → at < length s → fieldAt 5 1 s at ≡ End m → filesFrom s at ≡ firstThen (bodyAt s at) (filesFrom s m)
+  next-file : {at m : ℕ} → at < length s → fieldAt 5 1 s at ≡ End m → filesFrom s at ≡ firstThen (bodyAt s at) (filesFrom s m)
   unfolding orNotASet
   next-file {at} {m} h e = files-are s (more {at = at} h (file-found s at e) (files-found s m) refl)
 
