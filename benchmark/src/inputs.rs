@@ -47,7 +47,7 @@ const fn shelved(name: &'static str, what: &'static str, call: Call) -> Input {
     Input { name, what, call, number: 0, make: shelf }
 }
 
-pub const ALL: [Input; 32] = [
+pub const ALL: [Input; 33] = [
     accepted("small", "small file (E3 of document 01)", small),
     accepted("book1", "book of 1 KB", || book(1023, 0, SHORT)),
     accepted("book2", "book of 2 KB", || book(2047, 0, SHORT)),
@@ -73,6 +73,7 @@ pub const ALL: [Input; 32] = [
     accepted("(8)", "(8) 1,600 substitutions to 4,095 bytes", || substitutions(23, 177, 800)),
     accepted("(9)", "(9) 220 nested couples removed, from both ends, 40 times", || nested_removals(220, 40)),
     accepted("(10)", "(10) 200 nested couples by kind 3, or 1 and 2, 30 times", || nested_substitutions(200, 30)),
+    accepted("(11)", "(11) 1,798 variables of degree 250, nested in U", || nested_variables(249, 1798)),
     printed("pageS", "page of a small term (E3 of document 01)", || E3.to_vec()),
     printed("pageB", "page of the book of 4 KB", || book_term(4095, 0).bytes()),
     printed("pageU", "page of 2,047 deep in U", || gen::nested(2047)),
@@ -574,6 +575,14 @@ fn long_bodies(uses: usize, count: usize) -> Vec<u8> {
     let n = |p| uses_of(p, uses);
     let term = joined(&[&[0xff, 0, 0xff], &n(1), &[0xff, 0xff], &n(2), &[0], &applications(2, 1, count)]);
     gen::file(&term, &empty_groups(count))
+}
+
+/// A chain of names, each of the type before it, and then `ff` as often as there are variables that mean the last of the chain: every
+/// abstractor has one for its rest, and nothing waits.
+fn nested_variables(chain: usize, variables: usize) -> Vec<u8> {
+    let names = [vec![0xff, 0], [0xff, 1].repeat(chain - 1)].concat();
+    let nested = [vec![0xff; variables], vec![0], vec![2; variables]].concat();
+    gen::file(&joined(&[&names, &nested]), &[])
 }
 
 // ---- Pages.

@@ -30,7 +30,8 @@ use Rattle.files.proofs.Answers.{term-bytes, says as answer-says}
 use Rattle.walk.specs.Contracts.{Answers, answer-passed, answer-stopped, Walkable, WalkAnswer}
 use Rattle.checker.specs.Answer.{CheckedAs, Checked}
 use Rattle.checker.specs.declared.CheckAnswer.{CheckAnswer}
-use Rattle.copies.specs.declared.Walked.{Walked}
+use Rattle.walk.specs.declared.Walked.{Walked}
+use Rattle.walk.proofs.Beginning.{halts-answer}
 use Rattle.checker.proofs.Left.{same-left, groups-drop, drop-groups}
 
 -- what the four numbers of the definition mean
@@ -91,8 +92,8 @@ module _ (s : List ℕ) {r : Layout} (is : r ≡ layoutOf (readFile s)) where
       unfolding checkOpenedBy
       run-as y h c = from-opened s open-file (rw h c)
 
-      module _ {w : Walked} (walks : WalkAnswer s (termBytes s (r .end)) (r .end) w) where
-        says : Answers s w (checkTerm (found .term) (groupsOf (layout .list)))
+      module _ {w : Walked} {left right : List ℕ} (walks : WalkAnswer s (termBytes s (r .end)) (r .end) left right w) where
+        says : Answers s left right w (checkTerm (found .term) (groupsOf (layout .list)))
         unfolding found walking
         says = walks .all (found .term) (layout .list) (walking .bytes) (found .accepts .closed) (found .accepts .shallow) (layout .is .groups)
 
@@ -100,9 +101,9 @@ module _ (s : List ℕ) {r : Layout} (is : r ≡ layoutOf (readFile s)) where
         unfolding checkAnswerOf
         walk-stopped n = go (checkTerm (found .term) (groupsOf (layout .list))) refl says
           where
-            go : (y : Run) → checkTerm (found .term) (groupsOf (layout .list)) ≡ y → Answers s w y → CheckedAs (record { number = w .number; place = w .place; comparisons = w .comparisons; degree = a .degree }) (checkFile s)
+            go : (y : Run) → checkTerm (found .term) (groupsOf (layout .list)) ≡ y → Answers s left right w y → CheckedAs (record { number = w .number; place = w .place; comparisons = w .comparisons; degree = a .degree }) (checkFile s)
             go (passed q) h (answer-passed gs e c k p) = absurd (n e)
-            go (stopped g q) h (answer-stopped e f p c) = run-as (stopped g q) h (record { number-is = e; place-is = p; comparisons-is = c; degree-is = found .degree-is })
+            go (stopped g q) h (answer-stopped e c) = let n = halts-answer e in run-as (stopped g q) h (record { number-is = n .0; place-is = n .2; comparisons-is = c; degree-is = found .degree-is })
 
         -- the groups that are left
         left-groups : (q : Progress) → checkTerm (found .term) (groupsOf (layout .list)) ≡ passed q → (gs : List GroupAt) → q .left ≡ groupsOf gs → Groups s (w .next) gs → drop (q .comparisons) (layout .list) ≡ gs
@@ -123,15 +124,15 @@ module _ (s : List ℕ) {r : Layout} (is : r ≡ layoutOf (readFile s)) where
             more-left gs (done e) c k = let y : ⊥ = omega arith in absurd y
             more-left gs (more e d) c k = record { number-is = refl; place-is = refl; comparisons-is = sym k; degree-is = found .degree-is }
 
-            go : (y : Run) → checkTerm (found .term) (groupsOf (layout .list)) ≡ y → Answers s w y → CheckedAs (record { number = 13; place = w .next; comparisons = w .comparisons; degree = a .degree }) (checkFile s)
+            go : (y : Run) → checkTerm (found .term) (groupsOf (layout .list)) ≡ y → Answers s left right w y → CheckedAs (record { number = 13; place = w .next; comparisons = w .comparisons; degree = a .degree }) (checkFile s)
             go (passed q) h (answer-passed gs e c k p) = run-as (passed q) h (rw (left-groups q h gs k p) (more-left gs p (q .comparisons) (sym c)))
-            go (stopped g q) h (answer-stopped e f p c) = absurd (f n)
+            go (stopped g q) h (answer-stopped e c) = absurd (halts-answer e .1 n)
 
         pub all-taken : w .number ≡ 0 → length s ≤ w .next → CheckedAs (record { number = 0; place = 0; comparisons = w .comparisons; degree = a .degree }) (checkFile s)
         unfolding checkAnswerOf leftOver
         all-taken n l = go (checkTerm (found .term) (groupsOf (layout .list))) refl says
           where
-            go : (y : Run) → checkTerm (found .term) (groupsOf (layout .list)) ≡ y → Answers s w y → CheckedAs (record { number = 0; place = 0; comparisons = w .comparisons; degree = a .degree }) (checkFile s)
+            go : (y : Run) → checkTerm (found .term) (groupsOf (layout .list)) ≡ y → Answers s left right w y → CheckedAs (record { number = 0; place = 0; comparisons = w .comparisons; degree = a .degree }) (checkFile s)
             go (passed q) h (answer-passed gs e c k p) =
                 run-as (passed q) h (rw (left-groups q h gs k p ∙ none-left p l) (record { number-is = refl; place-is = refl; comparisons-is = c; degree-is = found .degree-is }))
-            go (stopped g q) h (answer-stopped e f p c) = absurd (f n)
+            go (stopped g q) h (answer-stopped e c) = absurd (halts-answer e .1 n)

@@ -3,6 +3,8 @@ ghost use mathlib.Core.Path.{_≡_};
 ghost use Rattle.checker.specs.Answer.{Checked};
 use code::numbers::ACCEPTED;
 use code::numbers::GROUPS_LEFT;
+use code::numbers::LONGEST_TERM;
+use letters::Letters;
 use walk::walk_term;
 
 // Number (0 if accepted), place, comparisons completed, degree.
@@ -40,7 +42,9 @@ pub fn check(s: &[u8]) -> CheckAnswer
     if term.number != ACCEPTED {
         return refusal(term.number, term.place);
     }
-    let walked = walk_term(s, part, end);
+    let mut left: Letters = [0; LONGEST_TERM];
+    let mut right: Letters = [0; LONGEST_TERM];
+    let walked = walk_term(s, part, end, &mut left, &mut right);
     let comparisons = walked.comparisons;
     if walked.number != ACCEPTED {
         return CheckAnswer {

@@ -3,11 +3,10 @@
 use Prim.Native.Nat.{ℕ, suc, _+_, _-_, _≤_, _<_}
 use mathlib.Core.Path.{_≡_, refl, ap, sym, subst, _∙_}
 use mathlib.Core.Bool.{Bool, true, false}
-use mathlib.Core.List.{List, map}
+use mathlib.Core.List.{List, [], _∷_, map}
 use native.Mathlib.Omega.{arith}
 use native.Mathlib.Numerals.{add-one}
-use lib.Dec.{lit<}
-use lib.ListN.{length}
+use lib.ListN.{length, drop}
 use Rattle.calculus.specs.Terms.{Term, Closed}
 use Rattle.calculus.specs.Frames.{Frame, ClosedFrame}
 use Rattle.code.specs.Limits.{longestTerm}
@@ -27,23 +26,14 @@ use Rattle.bodies.specs.Held.{Held, SomeHeld, TypedAs, Types}
 use Rattle.bodies.proofs.Using.{refused-type, outgrown-type, held-type}
 use Rattle.bodies.proofs.Places.{fits-true}
 use Rattle.verdict.specs.Bounds.{bodyFits}
-use Rattle.verdict.specs.Verdict.{Ground, number, Progress, Run, stopped}
-use Rattle.recursion.specs.Recursion.{nextGroup as withGroup}
+use Rattle.verdict.specs.Verdict.{same-at, placeOf, Progress, withGroup, toTurn}
 use Rattle.compare.specs.declared.Compared.{Compared}
 use Rattle.compare.specs.Replays.{Loadable, LoadedAs, loaded, too-large, Loads}
-use Rattle.compare.specs.Sides.{TwoSides, SidesSay, sides-passed, sides-stopped, Sides}
-use Rattle.compare.specs.Compares.{Comparing, CompareSays, compare-passed, compare-stopped, Compares, Typing, ComparesType}
+use Rattle.compare.specs.Sides.{TwoSides, Sides}
+use Rattle.compare.specs.Compares.{Comparing, is-untyped, is-no-group, is-type-outgrown, is-domain-outgrown, Compares, Ends, Typing, ComparesType}
 use Rattle.compare.proofs.Bodies.{fits-limits}
-use Rattle.compare.proofs.Runs.{next-untyped, next-typed, no-groups, next-group, large-type, large-domain}
-
--- ---- What stops a run.
-says-stopped : {file : List ℕ} {at : ℕ} {r : Compared} {p : Progress} {x : Run} {g : Ground} → x ≡ stopped g p → r .number ≡ number g → 0 < r .number → CompareSays file at r p x
-says-stopped {file} {at} {r} {p} e q n = subst (CompareSays file at r p) (sym e) (compare-stopped q (λ z. omega arith) refl)
-
--- What both sides say, once the group is known.
-says-sides : {file : List ℕ} {at n m : ℕ} {p : Progress} {gs : List GroupAt} {x : Run} → at < m → Groups file m gs → SidesSay n (map (λ g. g .group) gs) p x → CompareSays file at (record { number = n; next = m }) p x
-says-sides {gs = gs} l h (sides-passed q e c) = compare-passed gs q l h e c
-says-sides l h (sides-stopped q n c) = compare-stopped q n c
+use Rattle.compare.proofs.Leading.{finished, ends-at, stops-at}
+use Rattle.compare.proofs.Runs.{next-untyped, next-typed, no-groups, large-type, large-domain, both-fit}
 
 first-group : {file : List ℕ} {at : ℕ} {gs : List GroupAt} → at < length file → Groups file at gs → First file at (spanAt file at) gs
 first-group {file} {at} {gs} l h = span-of file at (some-left h l) .first gs h
@@ -105,51 +95,62 @@ module _ {file w : List ℕ} {at : ℕ} {f : FrameRecord} {m e : ℕ} (x : Compa
   }
 
   -- ---- With the type at hand.
-  module _ {a : List ℕ} {n : ℕ} where
-    pub typed-no-group : length file ≤ at → ComparesType file w at f m e a n (record { number = 9; next = at })
-    unfolding number
-    typed-no-group l = record { all = λ R T U gs t i u h place p q. says-stopped (no-groups R place U p T (q ∙ ap (map (λ g. g .group)) (none-left h l))) refl (lit< tt) }
+  module _ {c a b : List ℕ} {n : ℕ} where
+    pub typed-no-group : length file ≤ at → ComparesType file w at f m e c n (record { number = 9; next = at; first = 0; second = 0; third = 0 }) a b
+    unfolding placeOf
+    typed-no-group l = record { all = λ R T U gs t i u h place p q. stops-at (no-groups R place U p T (q ∙ ap (map (λ g. g .group)) (none-left h l))) (is-no-group refl refl refl refl) refl }
 
-    module _ {b b′ : List ℕ} where
-      pub typed-large-domain : at < length file → Loads w b b′ (f .len) (m + 1) e false → ComparesType file w at f m e a n (record { number = 11; next = at })
-      unfolding number
+    module _ {b₀ b′ : List ℕ} where
+      pub typed-large-domain : at < length file → Loads w b₀ b′ (f .len) (m + 1) e false → ComparesType file w at f m e c n (record { number = 11; next = at; first = 0; second = 0; third = 0 }) a b
+      unfolding placeOf
       typed-large-domain l y = record {
-        all = λ R T U gs t i u h place p q. let o = first-group l h in says-stopped (next-group R place U p T (q ∙ ap (map (λ g. g .group)) (o .all))
-            ∙ large-domain R place U p T _ _ i (unfits-of (y .all R U (stored-depth (t .stored)) (next-place u)))) refl (lit< tt);
+        all = λ R T U gs t i u h place p q. stops-at (large-domain R place U p T (q ∙ ap (map (λ g. g .group)) (first-group l h .all)) i (unfits-of (y .all R U (stored-depth (t .stored)) (next-place u))))
+            (is-domain-outgrown refl refl refl refl) refl;
       }
 
-      pub typed-sides : {g : GroupSpan} {r : ℕ} → GroupParts file at g → length b ≡ longestTerm → Loads w b b′ (f .len) (m + 1) e true → Sides file g w f a n b′ (e - (m + 1)) r → ComparesType file w at f m e a n (record { number = r; next = g .next })
+      pub typed-sides : {g : GroupSpan} {r : Compared} → GroupParts file at g → length b₀ ≡ longestTerm → Loads w b₀ b′ (f .len) (m + 1) e true → Sides file g w f c n b′ (e - (m + 1)) r a b → ComparesType file w at f m e c n r a b
       typed-sides {g} {r} o k l v = record { all = λ R T U gs t i u h place p q. go R T U gs t i u (o .first gs h) place p q }
         where
-          go : (R : Frame) (T U : Term) (gs : List GroupAt) → Held w f a n R T → bodyFits R T ≡ true → Stands w (suc m) e U → First file at g gs → (place : ℕ) (p : Progress) → p .left ≡ map (λ h. h .group) gs → CompareSays file at (record { number = r; next = g .next }) p (withGroup R place T U (p .left) p)
+          go : (R : Frame) (T U : Term) (gs : List GroupAt) → Held w f c n R T → bodyFits R T ≡ true → Stands w (suc m) e U → First file at g gs → (place : ℕ) (p : Progress) → p .left ≡ map (λ h. h .group) gs
+              → Ends file at r a b place p (withGroup place R T U (p .left) [] (toTurn []) p)
           go R T U gs t i u h place p q =
-              let j = lies-of (l .all R U (stored-depth (t .stored)) (next-place u)) .0 in
-              subst (CompareSays file at (record { number = r; next = g .next }) p) (sym (next-group R place U p T (q ∙ ap (map (λ z. z .group)) (h .all))))
-              (says-sides (omega (arith, o .longer)) (h .follow) (v .all R T U t (domain-held (t .stored) k l u) i j place (map (λ z. z .group) (h .rest)) p))
+              let d = q ∙ ap (map (λ z. z .group)) (h .all) in
+              ends-at (both-fit R place U p T d i (lies-of (l .all R U (stored-depth (t .stored)) (next-place u)) .0))
+              (v .all R T U t (domain-held (t .stored) k l u) at (omega (arith, o .longer)) (h .rest) (h .follow) place p (ap (drop 1) d))
 
   -- ---- With the type's answer.
-  module _ {b₀ b b′ : List ℕ} {z : Bool} {y : Form} (a : length b₀ ≡ longestTerm) (l : Loads w b₀ b (f .len) (f .end + 1) m z) (t : Types w f b b′ (m - (f .end + 1)) y) where
-    typed : {r : Form} → y ≡ r → {R : Frame} {K : Term} → Stored w f R → Stands w (suc (f .end)) m K → TypedAs w f b′ R K r
-    typed q {R} {K} s h = subst (TypedAs w f b′ R K) q (t .all R K (applied-held s a l h))
+  module _ {b₀ c c′ : List ℕ} {z : Bool} {y : Form} (k : length b₀ ≡ longestTerm) (l : Loads w b₀ c (f .len) (f .end + 1) m z) (t : Types w f c c′ (m - (f .end + 1)) y) where
+    typed : {r : Form} → y ≡ r → {R : Frame} {K : Term} → Stored w f R → Stands w (suc (f .end)) m K → TypedAs w f c′ R K r
+    typed q {R} {K} s h = subst (TypedAs w f c′ R K) q (t .all R K (applied-held s k l h))
 
-    pub untyped-answer : {v : ℕ} → y ≡ Refused v → Compares file w at f m e (record { number = 7; next = at })
-    unfolding number
-    untyped-answer q = record { all = λ R K U gs s i j h place p c. says-stopped (next-untyped R place U p K (refused-type (typed q s i))) refl (lit< tt) }
+    module _ {a b : List ℕ} where
+      pub untyped-answer : {v : ℕ} → y ≡ Refused v → Compares file w at f m e (record { number = 7; next = at; first = 0; second = 0; third = 0 }) a b
+      unfolding placeOf
+      untyped-answer q = record { all = λ R K U gs s i j h place p d. finished (same-at place R K U ∷ []) (stops-at (next-untyped R place U p K (refused-type (typed q s i))) (is-untyped refl refl refl refl) refl) }
 
-    pub no-group-answer : y ≡ Outgrown → length file ≤ at → Compares file w at f m e (record { number = 9; next = at })
-    unfolding number
-    no-group-answer q d = record { all = λ R K U gs s i j h place p c. let o = outgrown-type (typed q s i) in says-stopped (next-typed R place U p K (o .0) (o .1) ∙ no-groups R place U p (o .0) (c ∙ ap (map (λ g. g .group)) (none-left h d))) refl (lit< tt) }
+      pub no-group-answer : y ≡ Outgrown → length file ≤ at → Compares file w at f m e (record { number = 9; next = at; first = 0; second = 0; third = 0 }) a b
+      unfolding placeOf
+      no-group-answer q v = record {
+        all = λ R K U gs s i j h place p d. let o = outgrown-type (typed q s i) in
+            finished (same-at place R K U ∷ []) (stops-at (next-typed R place U p K (o .0) (o .1) ∙ no-groups R place U p (o .0) (d ∙ ap (map (λ g. g .group)) (none-left h v))) (is-no-group refl refl refl refl) refl);
+      }
 
-    pub large-type-answer : y ≡ Outgrown → at < length file → Compares file w at f m e (record { number = 11; next = at })
-    unfolding number
-    large-type-answer q d = record { all = λ R K U gs s i j h place p c. let o = outgrown-type (typed q s i) in says-stopped (next-typed R place U p K (o .0) (o .1) ∙ next-group R place U p (o .0) (c ∙ ap (map (λ g. g .group)) (first-group d h .all)) ∙ large-type R place U p (o .0) _ _ (o .2)) refl (lit< tt) }
+      pub large-type-answer : y ≡ Outgrown → at < length file → Compares file w at f m e (record { number = 11; next = at; first = 0; second = 0; third = 0 }) a b
+      unfolding placeOf
+      large-type-answer q v = record {
+        all = λ R K U gs s i j h place p d. let o = outgrown-type (typed q s i) in
+            finished (same-at place R K U ∷ []) (stops-at (next-typed R place U p K (o .0) (o .1) ∙ large-type R place U p (o .0) (d ∙ ap (map (λ g. g .group)) (first-group v h .all)) (o .2)) (is-type-outgrown refl refl refl refl) refl);
+      }
 
-    pub typed-long : length b′ ≡ longestTerm
-    typed-long = t .same-length ∙ l .same-length ∙ a
+    pub typed-long : length c′ ≡ longestTerm
+    typed-long = t .same-length ∙ l .same-length ∙ k
 
     module _ {n : ℕ} (q : y ≡ Length n) where
-      pub typing : Typing file w at f m e b′ n
+      pub typing : Typing file w at f m e c′ n
       typing = let o = held-type (typed q (x .stored) (x .applied-stands)) in record { comparing = x; typed = record { frame = x .frame; term = o .0; held = o .2 .held } }
 
-      pub typed-answer : {r : Compared} → ComparesType file w at f m e b′ n r → Compares file w at f m e r
-      typed-answer {r} v = record { all = λ R K U gs s i j h place p c. let o = held-type (typed q s i) in subst (CompareSays file at r p) (sym (next-typed R place U p K (o .0) (o .1))) (v .all R (o .0) U gs (o .2 .held) (o .2 .fits) j h place p c) }
+      pub typed-answer : {r : Compared} {a b : List ℕ} → ComparesType file w at f m e c′ n r a b → Compares file w at f m e r a b
+      typed-answer v = record {
+        all = λ R K U gs s i j h place p d. let o = held-type (typed q s i) in
+            finished (same-at place R K U ∷ []) (ends-at (next-typed R place U p K (o .0) (o .1)) (v .all R (o .0) U gs (o .2 .held) (o .2 .fits) j h place p d));
+      }

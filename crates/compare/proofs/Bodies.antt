@@ -6,10 +6,9 @@ use mathlib.Core.Bool.{Bool, true, false}
 use mathlib.Core.List.{List}
 use native.Mathlib.Omega.{arith}
 use lib.Dec.{leb}
-use lib.ListN.{length, take}
 use lib.Seq.{sets}
 use borrow.Author.Tests.{leb-true}
-use Rattle.calculus.specs.Terms.{Term, size, lift}
+use Rattle.calculus.specs.Terms.{Term, size}
 use Rattle.calculus.specs.Frames.{Frame, depth}
 use Rattle.calculus.proofs.Lift.{lift-zero}
 use Rattle.code.specs.Limits.{longestTerm, mostAbstractors}
@@ -31,7 +30,7 @@ use Rattle.compare.specs.Replays.{Loadable, LoadedAs, loaded, too-large,
 
 -- ---- A term brought into an array.
 module _ {w b : List ℕ} {len from to : ℕ} (x : Loadable w b len from to) where
-  pub load-ordered : from ≤ to
+  load-ordered : from ≤ to
   load-ordered = omega (arith, stands-start (x .stands))
 
   pub load-long : longestTerm < to - from → Loads w b b len from to false

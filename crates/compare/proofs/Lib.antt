@@ -1,5 +1,7 @@
 -- The laws of this crate.
 -- Assumes nothing.
+pub mod Grounds
+pub mod Leading
 pub mod Replaying
 pub mod Bodies
 pub mod Runs

@@ -1,124 +1,140 @@
--- What the code answers in each case is what the comparison's run says.
+-- What the code answers in each case is what the comparison comes to.
 -- Assumes nothing.
-use Prim.Native.Nat.{ℕ, suc, _≤_}
-use mathlib.Core.Path.{_≡_, refl, ap, sym, subst}
-use mathlib.Core.Bool.{Bool, true, false, cond}
+use Prim.Native.Nat.{ℕ, _≤_, _<_}
+use mathlib.Core.Path.{_≡_, refl, _∙_}
+use mathlib.Core.Bool.{Bool, true, false}
 use mathlib.Core.Option.{none, some}
-use mathlib.Core.List.{List, [], _∷_}
+use mathlib.Core.List.{List, [], _∷_, map}
 use native.Mathlib.Omega.{arith}
-use lib.ListN.{length}
+use lib.ListN.{length, drop}
 use Rattle.calculus.specs.Terms.{Term}
 use Rattle.calculus.specs.Frames.{Frame}
 use Rattle.calculus.specs.Types.{type}
+use Rattle.calculus.specs.Steps.{Step}
 use Rattle.calculus.specs.Rules.{Group}
+use Rattle.letters.specs.Letters.{Lies}
 use Rattle.letters.proofs.Letters.{lies-end}
 use Rattle.fields.specs.declared.GroupSpan.{GroupSpan}
-use Rattle.fields.specs.Fields.{groupIn}
+use Rattle.fields.specs.Fields.{GroupAt, Groups, groupIn}
 use Rattle.frames.specs.declared.FrameRecord.{FrameRecord}
 use Rattle.bodies.specs.Held.{Held, SomeHeld}
-use Rattle.parts.specs.Parts.{Compared}
+use Rattle.parts.specs.Parts.{Compared as Same}
 use Rattle.verdict.specs.Bounds.{bodyFits}
-use Rattle.verdict.specs.Verdict.{Side, left-side, right-side, untyped, no-group, type-outgrown, domain-outgrown, bodies-differ, number, Progress, Run, passed, stopped, turned, identical}
-use Rattle.recursion.specs.Recursion.{Replayed as Replay, form, replayFrom, oneSide, completedWith as completed, compareWith, nextGroup as withGroup, typedBy as withType, compareNext}
+use Rattle.verdict.specs.Verdict.{same-at, untyped, no-group, type-outgrown, domain-outgrown, placeOf, Progress, turned, completed, passed, stopped, OtherSide, right-next, left-reached, sideOf, done, identical, formsMeet, sideFrom, withGroup, withType, toTurn}
+use Rattle.verdict.proofs.Turns.{turn-over}
 use Rattle.compare.specs.declared.Replayed.{Replayed}
-use Rattle.compare.specs.Replays.{ReplayedAs, as-form, as-refused, as-outgrown, Replays}
-use Rattle.compare.specs.Sides.{SidesSay, sides-passed, sides-stopped, Sides}
+use Rattle.compare.specs.declared.Compared.{Compared}
+use Rattle.compare.specs.Replays.{here, Comes, ReplayedAs, as-form, as-refused, as-outgrown, Replays}
+use Rattle.compare.specs.Compares.{sideNumber, is-refused, is-step-outgrown, is-different, compare-passed, compare-stopped, Ends}
+use Rattle.compare.specs.Sides.{Concludes, Sides}
 use Rattle.compare.proofs.Bodies.{other-length, other-letters, all-letters}
+use Rattle.compare.proofs.Leading.{ends-at, ends-after, stops-at}
 
 -- ---- The comparison by cases.
 module _ (R : Frame) (place : ℕ) (U : Term) (p : Progress) where
-  pub next-untyped : (K : Term) → type R K ≡ none → compareNext R (record { place = place; term = K }) U p ≡ stopped (untyped place) p
-  unfolding compareNext withType
+  pub next-untyped : (K : Term) → type R K ≡ none → toTurn (same-at place R K U ∷ []) p ≡ done (stopped (untyped place) p)
+  unfolding toTurn withType
   next-untyped K e = rw e
 
-  pub next-typed : (K T : Term) → type R K ≡ some T → compareNext R (record { place = place; term = K }) U p ≡ withGroup R place T U (p .left) p
-  unfolding compareNext withType
+  pub next-typed : (K T : Term) → type R K ≡ some T → toTurn (same-at place R K U ∷ []) p ≡ withGroup place R T U (p .left) [] (toTurn []) p
+  unfolding toTurn withType
   next-typed K T e = rw e
 
   module _ (T : Term) where
-    pub no-groups : p .left ≡ [] → withGroup R place T U (p .left) p ≡ stopped (no-group place) p
+    pub no-groups : p .left ≡ [] → withGroup place R T U (p .left) [] (toTurn []) p ≡ done (stopped (no-group place) p)
     unfolding withGroup
     no-groups e = rw e
 
-    pub next-group : {g : Group} {gs : List Group} → p .left ≡ g ∷ gs → withGroup R place T U (p .left) p ≡ compareWith R place T U g gs p
-    unfolding withGroup
-    next-group e = rw e
+    module _ {g : Group} {gs : List Group} (e : p .left ≡ g ∷ gs) where
+      pub large-type : bodyFits R T ≡ false → withGroup place R T U (p .left) [] (toTurn []) p ≡ done (stopped (type-outgrown place) p)
+      unfolding withGroup
+      large-type h = rw (e, h)
 
-    module _ (g : Group) (gs : List Group) where
-      pub large-type : bodyFits R T ≡ false → compareWith R place T U g gs p ≡ stopped (type-outgrown place) p
-      unfolding compareWith
-      large-type e = rw e
+      pub large-domain : bodyFits R T ≡ true → bodyFits R U ≡ false → withGroup place R T U (p .left) [] (toTurn []) p ≡ done (stopped (domain-outgrown place) p)
+      unfolding withGroup
+      large-domain h i = rw (e, h, i)
 
-      pub large-domain : bodyFits R T ≡ true → bodyFits R U ≡ false → compareWith R place T U g gs p ≡ stopped (domain-outgrown place) p
-      unfolding compareWith
-      large-domain e h = rw (e, h)
+      pub both-fit : bodyFits R T ≡ true → bodyFits R U ≡ true → withGroup place R T U (p .left) [] (toTurn []) p ≡ sideFrom place R (right-next (g .right) U) 0 (g .left) T [] (toTurn []) p
+      unfolding withGroup
+      both-fit h i = rw (e, h, i)
 
--- The two forms, and then each side's replay.
-abbrev ending : ℕ → List Group → Term → Term → Progress → Run
-ending place gs l r q = cond (identical l r) (passed (completed gs q)) (stopped (bodies-differ place l r) q)
+-- ---- One side: its form is reached, or it stops.
+reached : {side : ℕ} {w : List ℕ} {f : FrameRecord} {b : List ℕ} {R : Frame} {ss : List Step} {t : Term} {r : Replayed} → ReplayedAs side w f b R ss t r → r .number ≡ 0
+    → (n : ℕ) × (u : Term) × Held w f b (r .len) R u × Comes R ss t (λ place o p. sideFrom place R o n [] u [] (toTurn []) (turned n p))
+reached (as-form n {u} q h c) z = (n, u, h, c)
+reached (as-refused q i j k c) z = absurd (omega arith)
+reached (as-outgrown q i j k c) z = absurd (omega arith)
 
-abbrev sides : Frame → ℕ → Term → Term → Group → List Group → Progress → Run
-sides R place T U g gs = oneSide place left-side (length (g .left)) (replayFrom R 0 (g .left) T) (λ l. oneSide place right-side (length (g .right)) (replayFrom R 0 (g .right) U) (ending place gs l))
+-- What stops a replay, as what stops the comparison.
+abbrev stopOf : Replayed → ℕ → Compared
+stopOf r m = record { number = r .number; next = m; first = r .side; second = r .step; third = r .reason }
 
-both-fit : (R : Frame) (place : ℕ) (T U : Term) (g : Group) (gs : List Group) (p : Progress) → bodyFits R T ≡ true → bodyFits R U ≡ true → compareWith R place T U g gs p ≡ sides R place T U g gs p
-unfolding compareWith
-both-fit R place T U g gs p e h = rw (e, h)
+-- Two forms that differ.
+abbrev differing : Replayed → Replayed → ℕ → Compared
+differing l r m = record { number = 12; next = m; first = l .len; second = r .len; third = 0 }
 
--- ---- One side: it stops, or its form goes on. p₀ is the progress at which the comparison begins.
--- A form is reached.
-reached : {w : List ℕ} {f : FrameRecord} {b : List ℕ} {R : Frame} {r : Replayed} {x : Replay} → ReplayedAs w f b R r x → r .number ≡ 0 → (u : Term) × Held w f b (r .len) R u × (x ≡ form u)
-reached (as-form {u = u} q h) z = (u, h, refl)
-reached (as-refused q) z = absurd (omega arith)
-reached (as-outgrown q) z = absurd (omega arith)
+module _ {file : List ℕ} {at : ℕ} {a b : List ℕ} (place : ℕ) (p : Progress) where
+  side-stops : (o : OtherSide) {side m : ℕ} {w : List ℕ} {f : FrameRecord} {c : List ℕ} {R : Frame} {ss : List Step} {t : Term} {r : Replayed} → side ≡ sideNumber (sideOf o) → (r .number ≡ 0 → ⊥)
+      → ReplayedAs side w f c R ss t r → Ends file at (stopOf r m) a b place p (sideFrom place R o 0 ss t [] (toTurn []) p)
+  unfolding turned placeOf
+  side-stops o e n (as-form i q h c) = absurd (n q)
+  side-stops o e n (as-refused q i j k c) = record { run = _; leads = c .leads place o p; says = compare-stopped (is-refused q (i ∙ e) j k) refl refl }
+  side-stops o e n (as-outgrown q i j k c) = record { run = _; leads = c .leads place o p; says = compare-stopped (is-step-outgrown q i j k) refl refl }
 
-module _ {w : List ℕ} {f : FrameRecord} {b : List ℕ} {R : Frame} {r : Replayed} {x : Replay} (a : ReplayedAs w f b R r x) (place : ℕ) (side : Side) (many : ℕ) (k : Term → Progress → Run) (gs : List Group) (p₀ p : Progress) where
-  side-stops : (r .number ≡ 0 → ⊥) → p .comparisons ≡ p₀ .comparisons → SidesSay (r .number) gs p₀ (oneSide place side many x k p)
-  unfolding oneSide turned number
-  side-stops n e = go a
-    where
-      go : {x : Replay} → ReplayedAs w f b R r x → SidesSay (r .number) gs p₀ (oneSide place side many x k p)
-      go (as-form q h) = absurd (n q)
-      go (as-refused q) = sides-stopped q n e
-      go (as-outgrown q) = sides-stopped q n e
+  -- Both forms are reached.
+  module _ (R : Frame) (n : ℕ) (l u : Term) where
+    forms-agree : {m : ℕ} (gs : List GroupAt) → at < m → Groups file m gs → drop 1 (p .left) ≡ map (λ h. h .group) gs → identical l u ≡ true
+        → Ends file at (record { number = 0; next = m; first = 0; second = 0; third = 0 }) a b place p (sideFrom place R (left-reached l) n [] u [] (toTurn []) p)
+    unfolding sideFrom formsMeet toTurn completed
+    forms-agree gs s h e q = rw q (record { run = passed (completed p); leads = here; says = compare-passed gs refl s h e refl })
 
-  side-goes : {n : ℕ} → r .number ≡ 0 → ((u : Term) → Held w f b (r .len) R u → SidesSay n gs p₀ (k u (turned many p))) → SidesSay n gs p₀ (oneSide place side many x k p)
-  unfolding oneSide
-  side-goes {n} z h = let o = reached a z in subst (λ y. SidesSay n gs p₀ (oneSide place side many y k p)) (sym (o .2)) (h (o .0) (o .1))
-
-ends : (e : Bool) (place : ℕ) (gs : List Group) (l r : Term) (p₀ p : Progress) → identical l r ≡ e → p .comparisons ≡ p₀ .comparisons → SidesSay (cond e 0 12) gs p₀ (ending place gs l r p)
-unfolding completed number
-ends true place gs l r p₀ p q h = rw q (sides-passed refl refl (ap suc h))
-ends false place gs l r p₀ p q h = rw q (sides-stopped refl (λ z. omega arith) h)
+    forms-differ : {m i j : ℕ} → Lies a 0 i 0 0 l → Lies b 0 j 0 0 u → identical l u ≡ false
+        → Ends file at (record { number = 12; next = m; first = i; second = j; third = 0 }) a b place p (sideFrom place R (left-reached l) n [] u [] (toTurn []) p)
+    unfolding sideFrom formsMeet placeOf
+    forms-differ x y q = stops-at (rw q) (is-different refl x y refl) refl
 
 -- ---- Both sides.
 -- A form that is reached lies in its array.
-pub form-room : {file : List ℕ} {from to : ℕ} {w : List ℕ} {f : FrameRecord} {b b′ : List ℕ} {n : ℕ} {r : Replayed} → Replays file from to w f b b′ n r → SomeHeld w f b n → r .number ≡ 0 → r .len ≤ length b′
-form-room v s z = lies-end (reached (v .all (s .frame) (s .term) (s .held)) z .1 .lies) .1
+pub form-room : {file : List ℕ} {from to side : ℕ} {w : List ℕ} {f : FrameRecord} {b b′ : List ℕ} {n : ℕ} {r : Replayed} → Replays file from to side w f b b′ n r → SomeHeld w f b n → r .number ≡ 0 → r .len ≤ length b′
+form-room v s z = lies-end (reached (v .all (s .frame) (s .term) (s .held)) z .2 .lies) .1
 
-module _ {file : List ℕ} {g : GroupSpan} {w : List ℕ} {f : FrameRecord} {a b a′ : List ℕ} {n k : ℕ} {l : Replayed} (x : Replays file (g .left) (g .middle) w f a a′ n l) where
-  pub left-stops : (l .number ≡ 0 → ⊥) → Sides file g w f a n b k (l .number)
-  left-stops h = record { all = λ R T U t u i j place gs p. subst (SidesSay (l .number) gs p) (sym (both-fit R place T U (groupIn file g) gs p i j)) (side-stops (x .all R T t) place left-side (length (groupIn file g .left)) _ gs p p h refl) }
+module _ {file : List ℕ} {g : GroupSpan} {w : List ℕ} {f : FrameRecord} {a b a′ : List ℕ} {n k side : ℕ} {l : Replayed} (x : Replays file (g .left) (g .middle) side w f a a′ n l) where
+  pub left-stops : side ≡ 0 → (l .number ≡ 0 → ⊥) → Sides file g w f a n b k (stopOf l (g .next)) a′ b
+  unfolding sideNumber sideOf
+  left-stops e h = record { all = λ R T U t u at s gs d place p q. side-stops place p (right-next _ U) e h (x .all R T t) }
 
-  module _ {b′ : List ℕ} {r : Replayed} (z : l .number ≡ 0) (y : Replays file (g .right) (g .next) w f b b′ k r) where
-    -- The left side's form, and then m of the right side.
-    right : {m : ℕ} → ((R : Frame) (U t : Term) → Held w f b k R U → Held w f a′ (l .len) R t → (place : ℕ) (gs : List Group) (p₀ p : Progress) → p .comparisons ≡ p₀ .comparisons → SidesSay m gs p₀ (oneSide place right-side (length (groupIn file g .right)) (replayFrom R 0 (groupIn file g .right) U) (ending place gs t) p)) → Sides file g w f a n b k m
+  module _ {b′ : List ℕ} {other : ℕ} {r : Replayed} (z : l .number ≡ 0) (y : Replays file (g .right) (g .next) other w f b b′ k r) where
+    -- Its form is reached, and m is said of the right side.
+    right : {m : Compared} → ((R : Frame) (U t : Term) → Held w f b k R U → Held w f a′ (l .len) R t
+        → Concludes file g m a′ b′ (λ place p. sideFrom place R (left-reached t) 0 (groupIn file g .right) U [] (toTurn []) p)) → Sides file g w f a n b k m a′ b′
     unfolding turned
-    right {m} h = record { all = λ R T U t u i j place gs p. subst (SidesSay m gs p) (sym (both-fit R place T U (groupIn file g) gs p i j)) (side-goes (x .all R T t) place left-side (length (groupIn file g .left)) _ gs p p z (λ v c. h R U v u c place gs p (turned (length (groupIn file g .left)) p) refl)) }
+    right h = record {
+      all = λ R T U t u at s gs d place p q. let o = reached (x .all R T t) z in
+          ends-after (o .0) (o .3 .leads place (right-next (groupIn file g .right) U) p)
+          (ends-at (turn-over place R (groupIn file g .right) U (o .0) (o .1) [] (toTurn []) (turned (o .0) p)) (h R U (o .1) u (o .2) at s gs d place (turned (o .0) p) q));
+    }
 
-    pub right-stops : (r .number ≡ 0 → ⊥) → Sides file g w f a n b k (r .number)
-    right-stops h = right (λ R U t u c place gs p₀ p e. side-stops (y .all R U u) place right-side (length (groupIn file g .right)) _ gs p₀ p h e)
+    pub right-stops : other ≡ 1 → (r .number ≡ 0 → ⊥) → Sides file g w f a n b k (stopOf r (g .next)) a′ b′
+    unfolding sideNumber sideOf
+    right-stops e h = right (λ R U t u c at s gs d place p q. side-stops place p (left-reached t) e h (y .all R U u))
 
     module _ (o : r .number ≡ 0) where
-      both-end : (e : Bool) → ((R : Frame) (t u : Term) → Held w f a′ (l .len) R t → Held w f b′ (r .len) R u → identical t u ≡ e) → Sides file g w f a n b k (cond e 0 12)
+      -- Both forms are reached, and m is said of them.
+      both : {m : Compared} → ((R : Frame) (t u : Term) → Held w f a′ (l .len) R t → Held w f b′ (r .len) R u → (i : ℕ)
+          → Concludes file g m a′ b′ (λ place p. sideFrom place R (left-reached t) i [] u [] (toTurn []) p)) → Sides file g w f a n b k m a′ b′
       unfolding turned
-      both-end e h = right (λ R U t u c place gs p₀ p q. side-goes (y .all R U u) place right-side (length (groupIn file g .right)) _ gs p₀ p o (λ v d. ends e place gs t v p₀ (turned (length (groupIn file g .right)) p) (h R t v c d) q))
+      both h = right (λ R U t u c at s gs d place p q. let e = reached (y .all R U u) o in
+          ends-after (e .0) (e .3 .leads place (left-reached t) p) (h R t (e .1) c (e .2) (e .0) at s gs d place (turned (e .0) p) q))
 
-      pub lengths-differ : (l .len ≡ r .len → ⊥) → Sides file g w f a n b k 12
-      lengths-differ h = both-end false (λ R t u c d. other-length c d h)
+      differ : ((R : Frame) (t u : Term) → Held w f a′ (l .len) R t → Held w f b′ (r .len) R u → identical t u ≡ false) → Sides file g w f a n b k (differing l r (g .next)) a′ b′
+      differ h = both (λ R t u c e i at s gs d place p q. forms-differ place p R i t u (c .lies) (e .lies) (h R t u c e))
 
-      module _ (e : l .len ≡ r .len) {s : Bool} (c : Compared a′ b′ (l .len) s) where
-        pub letters-differ : s ≡ false → Sides file g w f a n b k 12
-        letters-differ q = both-end false (λ R t u i j. other-letters i j e c q)
+      pub lengths-differ : (l .len ≡ r .len → ⊥) → Sides file g w f a n b k (differing l r (g .next)) a′ b′
+      lengths-differ h = differ (λ R t u c e. other-length c e h)
 
-        pub letters-agree : s ≡ true → Sides file g w f a n b k 0
-        letters-agree q = both-end true (λ R t u i j. all-letters i j e c q)
+      module _ (e : l .len ≡ r .len) {v : Bool} (c : Same a′ b′ (l .len) v) where
+        pub letters-differ : v ≡ false → Sides file g w f a n b k (differing l r (g .next)) a′ b′
+        letters-differ q = differ (λ R t u i j. other-letters i j e c q)
+
+        pub letters-agree : v ≡ true → Sides file g w f a n b k (record { number = 0; next = g .next; first = 0; second = 0; third = 0 }) a′ b′
+        letters-agree q = both (λ R t u i j m at s gs d place p h. forms-agree place p R m t u gs s d h (all-letters i j e c q))

@@ -1,5 +1,5 @@
 -- The contracts of this crate.
 -- Assumes nothing.
 pub mod Replays
-pub mod Sides
 pub mod Compares
+pub mod Sides

@@ -1,6 +1,7 @@
 // One comparison of the check of a file, `same(R,K,U)`, with the next group of the file: the type of K and U, each held as letters
 // in an array of its own, replayed by its steps, and compared.
 ghost use Rattle.fields.specs.Fields.{StepRange};
+ghost use Rattle.frames.specs.Stored.{recordOf};
 ghost use Rattle.bodies.specs.Held.{SomeHeld};
 ghost use Rattle.compare.specs.Replays.{Loadable, Loads, Replays};
 ghost use Rattle.compare.specs.Sides.{Buffers, TwoSides, Sides};
@@ -19,22 +20,31 @@ use fields::GroupSpan;
 use fields::group_at;
 use fields::step_at;
 use frames::FrameRecord;
+use frames::Starts;
 use frames::Work;
 use letters::Letters;
 use letters::read;
 use letters::same;
 use steps::step_in_place;
 
-// The number of what stops the comparison, or 0 and where the next group stands.
+// What a comparison comes to: 0 and where the next group stands; or the number of what stops it, and its ground. For 10 the ground is
+// the side (0 left, 1 right), the step's number in its list from 0, and the condition (1 kind, 2 place, 3 byte, 4 no partner, 5 still used);
+// for 12 the lengths of the two bodies, which stand in the two lent arrays; else 0 0 0.
 pub struct Compared {
     pub number: u32,
     pub next: usize,
+    pub first: usize,
+    pub second: usize,
+    pub third: usize,
 }
 
-// The number of the step's refusal, or 0 and the length of the form reached.
+// What a side's steps come to: 0 and the length of the form reached; or the number of what stops them, and its ground.
 struct Replayed {
     number: u32,
     len: usize,
+    side: usize,
+    step: usize,
+    reason: usize,
 }
 
 // The term that stands in the work array, as letters in `body`, if it is within the limits after a frame of len entries.
@@ -48,50 +58,62 @@ fn load(work: &Work, from: usize, to: usize, len: usize, body: &mut Letters) -> 
     read(work, from, to, 0, 0, 0, MOST_ABSTRACTORS - len, body, 0)
 }
 
-// The steps that stand in the file from `from` up to `to`, replayed on the body in the first n letters.
+// The steps of a side, which stand in the file from `from` up to `to`, replayed on the body in the first n letters.
 fn replay(
     file: &[u8],
     from: usize,
     to: usize,
+    side: usize,
     body: &mut Letters,
     n: usize,
     work: &Work,
     f: FrameRecord,
 ) -> Replayed
     requires { ⌜ StepRange (now file) from to × SomeHeld (now work) f (now body) n ⌝ }
-    ensures { λ r. ⌜ Replays (now (file .entry)) from to (now (work .entry)) f (now (body .entry)) (now (body .exit)) n r ⌝ }
+    ensures { λ r. ⌜ Replays (now (file .entry)) from to side (now (work .entry)) f (now (body .entry)) (now (body .exit)) n r ⌝ }
 {
     let mut at = from;
     let mut len = n;
+    let mut step = 0;
     while at < to {
         let s = step_at(file, at);
         let stepped = step_in_place(body, len, work, f, s.kind, s.place);
         match stepped {
-            Form::Refused(_) => {
+            Form::Refused(reason) => {
                 return Replayed {
                     number: STEP_NOT_POSSIBLE,
                     len: 0,
+                    side: side,
+                    step: step,
+                    reason: reason as usize,
                 };
             }
             Form::Outgrown => {
                 return Replayed {
                     number: OUTGROWN,
                     len: 0,
+                    side: 0,
+                    step: 0,
+                    reason: 0,
                 };
             }
             Form::Length(m) => {
                 len = m;
                 at += 3;
+                step += 1;
             }
         }
     }
     Replayed {
         number: ACCEPTED,
         len: len,
+        side: 0,
+        step: 0,
+        reason: 0,
     }
 }
 
-// Each side's steps, and whether both reach the same form: the number of what stops that, or 0.
+// Each side's steps, and whether both reach the same form.
 fn compare_sides(
     file: &[u8],
     g: GroupSpan,
@@ -101,25 +123,55 @@ fn compare_sides(
     n: usize,
     right: &mut Letters,
     k: usize,
-) -> u32
+) -> Compared
     requires { ⌜ TwoSides (now file) g (now work) f (now left) n (now right) k ⌝ }
-    ensures { λ r. ⌜ Sides (now (file .entry)) g (now (work .entry)) f (now (left .entry)) n (now (right .entry)) k r × Buffers (now (left .exit)) (now (right .exit)) ⌝ }
+    ensures { λ r. ⌜ Sides (now (file .entry)) g (now (work .entry)) f (now (left .entry)) n (now (right .entry)) k r (now (left .exit)) (now (right .exit)) × Buffers (now (left .exit)) (now (right .exit)) ⌝ }
 {
-    let l = replay(file, g.left, g.middle, left, n, work, f);
+    let l = replay(file, g.left, g.middle, 0, left, n, work, f);
     if l.number != ACCEPTED {
-        return l.number;
+        return Compared {
+            number: l.number,
+            next: g.next,
+            first: l.side,
+            second: l.step,
+            third: l.reason,
+        };
     }
-    let r = replay(file, g.right, g.next, right, k, work, f);
+    let r = replay(file, g.right, g.next, 1, right, k, work, f);
     if r.number != ACCEPTED {
-        return r.number;
+        return Compared {
+            number: r.number,
+            next: g.next,
+            first: r.side,
+            second: r.step,
+            third: r.reason,
+        };
     }
     if l.len != r.len {
-        return BODIES_DIFFER;
+        return Compared {
+            number: BODIES_DIFFER,
+            next: g.next,
+            first: l.len,
+            second: r.len,
+            third: 0,
+        };
     }
     if !same(left, right, l.len) {
-        return BODIES_DIFFER;
+        return Compared {
+            number: BODIES_DIFFER,
+            next: g.next,
+            first: l.len,
+            second: r.len,
+            third: 0,
+        };
     }
-    ACCEPTED
+    Compared {
+        number: ACCEPTED,
+        next: g.next,
+        first: 0,
+        second: 0,
+        third: 0,
+    }
 }
 
 // The type of K is held in the first n letters of `left`, and U stands from m + 1 up to e.
@@ -135,61 +187,80 @@ fn compare_type(
     right: &mut Letters,
 ) -> Compared
     requires { ⌜ Typing (now file) (now work) at f m e (now left) n × Buffers (now left) (now right) ⌝ }
-    ensures { λ r. ⌜ ComparesType (now (file .entry)) (now (work .entry)) at f m e (now (left .entry)) n r × Buffers (now (left .exit)) (now (right .exit)) ⌝ }
+    ensures { λ r. ⌜ ComparesType (now (file .entry)) (now (work .entry)) at f m e (now (left .entry)) n r (now (left .exit)) (now (right .exit)) × Buffers (now (left .exit)) (now (right .exit)) ⌝ }
 {
     if at >= file.len() {
         return Compared {
             number: NO_GROUP_LEFT,
             next: at,
+            first: 0,
+            second: 0,
+            third: 0,
         };
     }
     if !load(work, m + 1, e, f.len, right) {
         return Compared {
             number: OUTGROWN,
             next: at,
+            first: 0,
+            second: 0,
+            third: 0,
         };
     }
     let g = group_at(file, at);
-    let number = compare_sides(file, g, work, f, left, n, right, e - (m + 1));
-    Compared {
-        number: number,
-        next: g.next,
-    }
+    compare_sides(file, g, work, f, left, n, right, e - (m + 1))
 }
 
-// The comparison of ⟨K⟩[U], which stands in the work array from f.end up to e, with the group at `at`: K ends at m. The two
+// The comparison of ⟨K⟩[U], which stands in the work array from the frame's end up to e, with the group at `at`: K ends at m. The two
 // bodies are carried in the lent arrays.
 pub fn compare(
     file: &[u8],
     at: usize,
     work: &Work,
-    f: FrameRecord,
+    starts: &Starts,
+    len: usize,
+    end: usize,
     m: usize,
     e: usize,
     left: &mut Letters,
     right: &mut Letters,
 ) -> Compared
-    requires { ⌜ Comparing (now file) (now work) at f m e × Buffers (now left) (now right) ⌝ }
-    ensures { λ r. ⌜ Compares (now (file .entry)) (now (work .entry)) at f m e r × Buffers (now (left .exit)) (now (right .exit)) ⌝ }
+    requires { ⌜ Comparing (now file) (now work) at (recordOf (now starts) len end) m e × Buffers (now left) (now right) ⌝ }
+    ensures { λ r. ⌜ Compares (now (file .entry)) (now (work .entry)) at (recordOf (now (starts .entry)) len end) m e r (now (left .exit)) (now (right .exit)) × Buffers (now (left .exit)) (now (right .exit)) ⌝ }
 {
-    let start = f.end + 1;
-    let loaded = load(work, start, m, f.len, left);
+    let own = *starts;
+    let f = FrameRecord {
+        starts: own,
+        len,
+        end,
+    };
+    let start = end + 1;
+    let loaded = load(work, start, m, len, left);
     let typed = type_in_place(left, m - start, work, f);
     match typed {
         Form::Refused(_) => Compared {
             number: NO_TYPE,
             next: at,
+            first: 0,
+            second: 0,
+            third: 0,
         },
         Form::Outgrown => {
             if at >= file.len() {
                 return Compared {
                     number: NO_GROUP_LEFT,
                     next: at,
+                    first: 0,
+                    second: 0,
+                    third: 0,
                 };
             }
             Compared {
                 number: OUTGROWN,
                 next: at,
+                first: 0,
+                second: 0,
+                third: 0,
             }
         }
         Form::Length(n) => compare_type(file, at, work, f, m, e, left, n, right),

@@ -2,6 +2,7 @@
 -- Assumes nothing.
 use Prim.Native.Nat.{ℕ, zero, suc, _+_, _-_, _*_, _≤_, _<_}
 use mathlib.Core.Path.{_≡_, refl, ap, sym, _∙_}
+use mathlib.Core.Bool.{Bool, true, false, cond}
 use mathlib.Core.List.{List, [], _∷_, _++_}
 use native.Mathlib.Omega.{arith}
 use native.Mathlib.Numerals.{add-one}
@@ -17,48 +18,54 @@ use Rattle.frames.specs.Stored.{Agree}
 use Rattle.frames.proofs.Entries.{agree-refl, agree-part, agree-trans, agree-set, agree-take, stands-agree}
 use Rattle.indices.specs.Passes.{ShortTerm, Replaced, Liftable, LiftableAbove}
 use Rattle.indices.proofs.Replace.{lifted-stands, before-same}
-use Rattle.waiting.specs.Waiting.{queueLength, slotOf, Noted, Moved, WrittenTerm, Writable, Puts}
+use Rattle.waiting.specs.Waiting.{slotOf, Noted}
+use Rattle.waiting.specs.Writing.{Moved, WrittenTerm, Writable, Puts}
 use Rattle.waiting.specs.declared.Slot.{Slot}
 
 -- ---- Numbers noted.
-slot-eq : (a b : Slot) → a .size ≡ b .size → a .scope ≡ b .scope → a .depth ≡ b .depth → a .place ≡ b .place → a .end ≡ b .end → a .shift ≡ b .shift → a .cut ≡ b .cut → a ≡ b
-slot-eq a b p q r s t u v = rw (p, q, r, s, t, u, v)
+slot-eq : (a b : Slot) → a .place ≡ b .place → a .at ≡ b .at → a .depth ≡ b .depth → a .shift ≡ b .shift → a .cut ≡ b .cut → a .scope ≡ b .scope → a ≡ b
+slot-eq a b p q r s t u = rw (p, q, r, s, t, u)
 
-module _ (q : List ℕ) (j : ℕ) (v : Slot) (h : j < 4096) (l : length q ≡ queueLength) where
-  fit0 : {i : ℕ} → i < queueLength → i < length q
-  fit0 z = omega (arith)
+-- one number set
+record Changed (q q′ : List ℕ) (i x : ℕ) : Type 0 where
+  there : getD q′ i 0 ≡ x
+  others : (k : ℕ) → (k ≡ i → ⊥) → getD q′ k 0 ≡ getD q k 0
+  long : length q′ ≡ length q
 
-  fit1 : {i : ℕ} → i < queueLength → i < length (set q (7 * j) (v .size))
-  fit1 z = omega (arith, length-set q (7 * j) (v .size))
+changed : (q : List ℕ) (i x : ℕ) → i < length q → Changed q (set q i x) i x
+changed q i x h = record { there = getD-set-same q i x 0 h; others = λ k o. getD-set-other q i k x 0 o; long = length-set q i x }
 
-  fit2 : {i : ℕ} → i < queueLength → i < length (set (set q (7 * j) (v .size)) (7 * j + 1) (v .scope))
-  fit2 z = omega (arith, length-set q (7 * j) (v .size), length-set (set q (7 * j) (v .size)) (7 * j + 1) (v .scope))
+all-six : {q a b c d e f : List ℕ} {j : ℕ} {v : Slot} → Changed q a (6 * j) (v .place) → Changed a b (6 * j + 1) (v .at) → Changed b c (6 * j + 2) (v .depth) → Changed c d (6 * j + 3) (v .shift) → Changed d e (6 * j + 4) (v .cut)
+    → Changed e f (6 * j + 5) (v .scope) → Noted q f j v
+all-six {j = j} {v = v} a b c d e f = record {
+  below = record { same = λ i g h. f .others i (λ z. omega arith) ∙ e .others i (λ z. omega arith) ∙ d .others i (λ z. omega arith) ∙ c .others i (λ z. omega arith) ∙ b .others i (λ z. omega arith) ∙ a .others i (λ z. omega arith) };
+  same-length = f .long ∙ e .long ∙ d .long ∙ c .long ∙ b .long ∙ a .long;
+  slot = slot-eq _ v (f .others (6 * j) (λ z. omega arith) ∙ e .others (6 * j) (λ z. omega arith) ∙ d .others (6 * j) (λ z. omega arith) ∙ c .others (6 * j) (λ z. omega arith) ∙ b .others (6 * j) (λ z. omega arith) ∙ a .there)
+      (f .others (6 * j + 1) (λ z. omega arith) ∙ e .others (6 * j + 1) (λ z. omega arith) ∙ d .others (6 * j + 1) (λ z. omega arith) ∙ c .others (6 * j + 1) (λ z. omega arith) ∙ b .there)
+      (f .others (6 * j + 2) (λ z. omega arith) ∙ e .others (6 * j + 2) (λ z. omega arith) ∙ d .others (6 * j + 2) (λ z. omega arith) ∙ c .there)
+      (f .others (6 * j + 3) (λ z. omega arith) ∙ e .others (6 * j + 3) (λ z. omega arith) ∙ d .there)
+      (f .others (6 * j + 4) (λ z. omega arith) ∙ e .there)
+      (f .there);
+}
 
-  fit3 : {i : ℕ} → i < queueLength → i < length (set (set (set q (7 * j) (v .size)) (7 * j + 1) (v .scope)) (7 * j + 2) (v .depth))
-  fit3 z = omega (arith, length-set q (7 * j) (v .size), length-set (set q (7 * j) (v .size)) (7 * j + 1) (v .scope), length-set (set (set q (7 * j) (v .size)) (7 * j + 1) (v .scope)) (7 * j + 2) (v .depth))
+module _ (q : List ℕ) (j : ℕ) (v : Slot) (h : 6 * j + 6 ≤ length q) where
+  pub in-1 : 6 * j + 1 < length (set q (6 * j) (v .place))
+  in-1 = omega (arith, length-set q (6 * j) (v .place))
 
-  fit4 : {i : ℕ} → i < queueLength → i < length (set (set (set (set q (7 * j) (v .size)) (7 * j + 1) (v .scope)) (7 * j + 2) (v .depth)) (7 * j + 3) (v .place))
-  fit4 z = omega (arith, length-set q (7 * j) (v .size), length-set (set q (7 * j) (v .size)) (7 * j + 1) (v .scope), length-set (set (set q (7 * j) (v .size)) (7 * j + 1) (v .scope)) (7 * j + 2) (v .depth), length-set (set (set (set q (7 * j) (v .size)) (7 * j + 1) (v .scope)) (7 * j + 2) (v .depth)) (7 * j + 3) (v .place))
+  pub in-2 : 6 * j + 2 < length (set (set q (6 * j) (v .place)) (6 * j + 1) (v .at))
+  in-2 = omega (arith, length-set q (6 * j) (v .place), length-set (set q (6 * j) (v .place)) (6 * j + 1) (v .at))
 
-  fit5 : {i : ℕ} → i < queueLength → i < length (set (set (set (set (set q (7 * j) (v .size)) (7 * j + 1) (v .scope)) (7 * j + 2) (v .depth)) (7 * j + 3) (v .place)) (7 * j + 4) (v .end))
-  fit5 z = omega (arith, length-set q (7 * j) (v .size), length-set (set q (7 * j) (v .size)) (7 * j + 1) (v .scope), length-set (set (set q (7 * j) (v .size)) (7 * j + 1) (v .scope)) (7 * j + 2) (v .depth), length-set (set (set (set q (7 * j) (v .size)) (7 * j + 1) (v .scope)) (7 * j + 2) (v .depth)) (7 * j + 3) (v .place), length-set (set (set (set (set q (7 * j) (v .size)) (7 * j + 1) (v .scope)) (7 * j + 2) (v .depth)) (7 * j + 3) (v .place)) (7 * j + 4) (v .end))
+  pub in-3 : 6 * j + 3 < length (set (set (set q (6 * j) (v .place)) (6 * j + 1) (v .at)) (6 * j + 2) (v .depth))
+  in-3 = omega (arith, length-set q (6 * j) (v .place), length-set (set q (6 * j) (v .place)) (6 * j + 1) (v .at), length-set (set (set q (6 * j) (v .place)) (6 * j + 1) (v .at)) (6 * j + 2) (v .depth))
 
-  fit6 : {i : ℕ} → i < queueLength → i < length (set (set (set (set (set (set q (7 * j) (v .size)) (7 * j + 1) (v .scope)) (7 * j + 2) (v .depth)) (7 * j + 3) (v .place)) (7 * j + 4) (v .end)) (7 * j + 5) (v .shift))
-  fit6 z = omega (arith, length-set q (7 * j) (v .size), length-set (set q (7 * j) (v .size)) (7 * j + 1) (v .scope), length-set (set (set q (7 * j) (v .size)) (7 * j + 1) (v .scope)) (7 * j + 2) (v .depth), length-set (set (set (set q (7 * j) (v .size)) (7 * j + 1) (v .scope)) (7 * j + 2) (v .depth)) (7 * j + 3) (v .place), length-set (set (set (set (set q (7 * j) (v .size)) (7 * j + 1) (v .scope)) (7 * j + 2) (v .depth)) (7 * j + 3) (v .place)) (7 * j + 4) (v .end), length-set (set (set (set (set (set q (7 * j) (v .size)) (7 * j + 1) (v .scope)) (7 * j + 2) (v .depth)) (7 * j + 3) (v .place)) (7 * j + 4) (v .end)) (7 * j + 5) (v .shift))
+  pub in-4 : 6 * j + 4 < length (set (set (set (set q (6 * j) (v .place)) (6 * j + 1) (v .at)) (6 * j + 2) (v .depth)) (6 * j + 3) (v .shift))
+  in-4 = omega (arith, length-set q (6 * j) (v .place), length-set (set q (6 * j) (v .place)) (6 * j + 1) (v .at), length-set (set (set q (6 * j) (v .place)) (6 * j + 1) (v .at)) (6 * j + 2) (v .depth), length-set (set (set (set q (6 * j) (v .place)) (6 * j + 1) (v .at)) (6 * j + 2) (v .depth)) (6 * j + 3) (v .shift))
 
-  pub noted : Noted q (set (set (set (set (set (set (set q (7 * j) (v .size)) (7 * j + 1) (v .scope)) (7 * j + 2) (v .depth)) (7 * j + 3) (v .place)) (7 * j + 4) (v .end)) (7 * j + 5) (v .shift)) (7 * j + 6) (v .cut)) j v
-  noted = record {
-    below = record { same = λ i a b. getD-set-other (set (set (set (set (set (set q (7 * j) (v .size)) (7 * j + 1) (v .scope)) (7 * j + 2) (v .depth)) (7 * j + 3) (v .place)) (7 * j + 4) (v .end)) (7 * j + 5) (v .shift)) (7 * j + 6) i (v .cut) 0 (λ z. omega arith) ∙ getD-set-other (set (set (set (set (set q (7 * j) (v .size)) (7 * j + 1) (v .scope)) (7 * j + 2) (v .depth)) (7 * j + 3) (v .place)) (7 * j + 4) (v .end)) (7 * j + 5) i (v .shift) 0 (λ z. omega arith) ∙ getD-set-other (set (set (set (set q (7 * j) (v .size)) (7 * j + 1) (v .scope)) (7 * j + 2) (v .depth)) (7 * j + 3) (v .place)) (7 * j + 4) i (v .end) 0 (λ z. omega arith) ∙ getD-set-other (set (set (set q (7 * j) (v .size)) (7 * j + 1) (v .scope)) (7 * j + 2) (v .depth)) (7 * j + 3) i (v .place) 0 (λ z. omega arith) ∙ getD-set-other (set (set q (7 * j) (v .size)) (7 * j + 1) (v .scope)) (7 * j + 2) i (v .depth) 0 (λ z. omega arith) ∙ getD-set-other (set q (7 * j) (v .size)) (7 * j + 1) i (v .scope) 0 (λ z. omega arith) ∙ getD-set-other q (7 * j) i (v .size) 0 (λ z. omega arith) };
-    same-length = length-set (set (set (set (set (set (set q (7 * j) (v .size)) (7 * j + 1) (v .scope)) (7 * j + 2) (v .depth)) (7 * j + 3) (v .place)) (7 * j + 4) (v .end)) (7 * j + 5) (v .shift)) (7 * j + 6) (v .cut) ∙ length-set (set (set (set (set (set q (7 * j) (v .size)) (7 * j + 1) (v .scope)) (7 * j + 2) (v .depth)) (7 * j + 3) (v .place)) (7 * j + 4) (v .end)) (7 * j + 5) (v .shift) ∙ length-set (set (set (set (set q (7 * j) (v .size)) (7 * j + 1) (v .scope)) (7 * j + 2) (v .depth)) (7 * j + 3) (v .place)) (7 * j + 4) (v .end) ∙ length-set (set (set (set q (7 * j) (v .size)) (7 * j + 1) (v .scope)) (7 * j + 2) (v .depth)) (7 * j + 3) (v .place) ∙ length-set (set (set q (7 * j) (v .size)) (7 * j + 1) (v .scope)) (7 * j + 2) (v .depth) ∙ length-set (set q (7 * j) (v .size)) (7 * j + 1) (v .scope) ∙ length-set q (7 * j) (v .size);
-    slot = slot-eq (slotOf (set (set (set (set (set (set (set q (7 * j) (v .size)) (7 * j + 1) (v .scope)) (7 * j + 2) (v .depth)) (7 * j + 3) (v .place)) (7 * j + 4) (v .end)) (7 * j + 5) (v .shift)) (7 * j + 6) (v .cut)) j) v
-        (getD-set-other (set (set (set (set (set (set q (7 * j) (v .size)) (7 * j + 1) (v .scope)) (7 * j + 2) (v .depth)) (7 * j + 3) (v .place)) (7 * j + 4) (v .end)) (7 * j + 5) (v .shift)) (7 * j + 6) (7 * j) (v .cut) 0 (λ z. omega arith) ∙ getD-set-other (set (set (set (set (set q (7 * j) (v .size)) (7 * j + 1) (v .scope)) (7 * j + 2) (v .depth)) (7 * j + 3) (v .place)) (7 * j + 4) (v .end)) (7 * j + 5) (7 * j) (v .shift) 0 (λ z. omega arith) ∙ getD-set-other (set (set (set (set q (7 * j) (v .size)) (7 * j + 1) (v .scope)) (7 * j + 2) (v .depth)) (7 * j + 3) (v .place)) (7 * j + 4) (7 * j) (v .end) 0 (λ z. omega arith) ∙ getD-set-other (set (set (set q (7 * j) (v .size)) (7 * j + 1) (v .scope)) (7 * j + 2) (v .depth)) (7 * j + 3) (7 * j) (v .place) 0 (λ z. omega arith) ∙ getD-set-other (set (set q (7 * j) (v .size)) (7 * j + 1) (v .scope)) (7 * j + 2) (7 * j) (v .depth) 0 (λ z. omega arith) ∙ getD-set-other (set q (7 * j) (v .size)) (7 * j + 1) (7 * j) (v .scope) 0 (λ z. omega arith) ∙ getD-set-same q (7 * j) (v .size) 0 (fit0 (omega arith)))
-        (getD-set-other (set (set (set (set (set (set q (7 * j) (v .size)) (7 * j + 1) (v .scope)) (7 * j + 2) (v .depth)) (7 * j + 3) (v .place)) (7 * j + 4) (v .end)) (7 * j + 5) (v .shift)) (7 * j + 6) (7 * j + 1) (v .cut) 0 (λ z. omega arith) ∙ getD-set-other (set (set (set (set (set q (7 * j) (v .size)) (7 * j + 1) (v .scope)) (7 * j + 2) (v .depth)) (7 * j + 3) (v .place)) (7 * j + 4) (v .end)) (7 * j + 5) (7 * j + 1) (v .shift) 0 (λ z. omega arith) ∙ getD-set-other (set (set (set (set q (7 * j) (v .size)) (7 * j + 1) (v .scope)) (7 * j + 2) (v .depth)) (7 * j + 3) (v .place)) (7 * j + 4) (7 * j + 1) (v .end) 0 (λ z. omega arith) ∙ getD-set-other (set (set (set q (7 * j) (v .size)) (7 * j + 1) (v .scope)) (7 * j + 2) (v .depth)) (7 * j + 3) (7 * j + 1) (v .place) 0 (λ z. omega arith) ∙ getD-set-other (set (set q (7 * j) (v .size)) (7 * j + 1) (v .scope)) (7 * j + 2) (7 * j + 1) (v .depth) 0 (λ z. omega arith) ∙ getD-set-same (set q (7 * j) (v .size)) (7 * j + 1) (v .scope) 0 (fit1 (omega arith)))
-        (getD-set-other (set (set (set (set (set (set q (7 * j) (v .size)) (7 * j + 1) (v .scope)) (7 * j + 2) (v .depth)) (7 * j + 3) (v .place)) (7 * j + 4) (v .end)) (7 * j + 5) (v .shift)) (7 * j + 6) (7 * j + 2) (v .cut) 0 (λ z. omega arith) ∙ getD-set-other (set (set (set (set (set q (7 * j) (v .size)) (7 * j + 1) (v .scope)) (7 * j + 2) (v .depth)) (7 * j + 3) (v .place)) (7 * j + 4) (v .end)) (7 * j + 5) (7 * j + 2) (v .shift) 0 (λ z. omega arith) ∙ getD-set-other (set (set (set (set q (7 * j) (v .size)) (7 * j + 1) (v .scope)) (7 * j + 2) (v .depth)) (7 * j + 3) (v .place)) (7 * j + 4) (7 * j + 2) (v .end) 0 (λ z. omega arith) ∙ getD-set-other (set (set (set q (7 * j) (v .size)) (7 * j + 1) (v .scope)) (7 * j + 2) (v .depth)) (7 * j + 3) (7 * j + 2) (v .place) 0 (λ z. omega arith) ∙ getD-set-same (set (set q (7 * j) (v .size)) (7 * j + 1) (v .scope)) (7 * j + 2) (v .depth) 0 (fit2 (omega arith)))
-        (getD-set-other (set (set (set (set (set (set q (7 * j) (v .size)) (7 * j + 1) (v .scope)) (7 * j + 2) (v .depth)) (7 * j + 3) (v .place)) (7 * j + 4) (v .end)) (7 * j + 5) (v .shift)) (7 * j + 6) (7 * j + 3) (v .cut) 0 (λ z. omega arith) ∙ getD-set-other (set (set (set (set (set q (7 * j) (v .size)) (7 * j + 1) (v .scope)) (7 * j + 2) (v .depth)) (7 * j + 3) (v .place)) (7 * j + 4) (v .end)) (7 * j + 5) (7 * j + 3) (v .shift) 0 (λ z. omega arith) ∙ getD-set-other (set (set (set (set q (7 * j) (v .size)) (7 * j + 1) (v .scope)) (7 * j + 2) (v .depth)) (7 * j + 3) (v .place)) (7 * j + 4) (7 * j + 3) (v .end) 0 (λ z. omega arith) ∙ getD-set-same (set (set (set q (7 * j) (v .size)) (7 * j + 1) (v .scope)) (7 * j + 2) (v .depth)) (7 * j + 3) (v .place) 0 (fit3 (omega arith)))
-        (getD-set-other (set (set (set (set (set (set q (7 * j) (v .size)) (7 * j + 1) (v .scope)) (7 * j + 2) (v .depth)) (7 * j + 3) (v .place)) (7 * j + 4) (v .end)) (7 * j + 5) (v .shift)) (7 * j + 6) (7 * j + 4) (v .cut) 0 (λ z. omega arith) ∙ getD-set-other (set (set (set (set (set q (7 * j) (v .size)) (7 * j + 1) (v .scope)) (7 * j + 2) (v .depth)) (7 * j + 3) (v .place)) (7 * j + 4) (v .end)) (7 * j + 5) (7 * j + 4) (v .shift) 0 (λ z. omega arith) ∙ getD-set-same (set (set (set (set q (7 * j) (v .size)) (7 * j + 1) (v .scope)) (7 * j + 2) (v .depth)) (7 * j + 3) (v .place)) (7 * j + 4) (v .end) 0 (fit4 (omega arith)))
-        (getD-set-other (set (set (set (set (set (set q (7 * j) (v .size)) (7 * j + 1) (v .scope)) (7 * j + 2) (v .depth)) (7 * j + 3) (v .place)) (7 * j + 4) (v .end)) (7 * j + 5) (v .shift)) (7 * j + 6) (7 * j + 5) (v .cut) 0 (λ z. omega arith) ∙ getD-set-same (set (set (set (set (set q (7 * j) (v .size)) (7 * j + 1) (v .scope)) (7 * j + 2) (v .depth)) (7 * j + 3) (v .place)) (7 * j + 4) (v .end)) (7 * j + 5) (v .shift) 0 (fit5 (omega arith)))
-        (getD-set-same (set (set (set (set (set (set q (7 * j) (v .size)) (7 * j + 1) (v .scope)) (7 * j + 2) (v .depth)) (7 * j + 3) (v .place)) (7 * j + 4) (v .end)) (7 * j + 5) (v .shift)) (7 * j + 6) (v .cut) 0 (fit6 (omega arith)));
-  }
+  pub in-5 : 6 * j + 5 < length (set (set (set (set (set q (6 * j) (v .place)) (6 * j + 1) (v .at)) (6 * j + 2) (v .depth)) (6 * j + 3) (v .shift)) (6 * j + 4) (v .cut))
+  in-5 = omega (arith, length-set q (6 * j) (v .place), length-set (set q (6 * j) (v .place)) (6 * j + 1) (v .at), length-set (set (set q (6 * j) (v .place)) (6 * j + 1) (v .at)) (6 * j + 2) (v .depth), length-set (set (set (set q (6 * j) (v .place)) (6 * j + 1) (v .at)) (6 * j + 2) (v .depth)) (6 * j + 3) (v .shift), length-set (set (set (set (set q (6 * j) (v .place)) (6 * j + 1) (v .at)) (6 * j + 2) (v .depth)) (6 * j + 3) (v .shift)) (6 * j + 4) (v .cut))
+
+  pub noted : Noted q (set (set (set (set (set (set q (6 * j) (v .place)) (6 * j + 1) (v .at)) (6 * j + 2) (v .depth)) (6 * j + 3) (v .shift)) (6 * j + 4) (v .cut)) (6 * j + 5) (v .scope)) j v
+  noted = all-six (changed q (6 * j) (v .place) (omega arith)) (changed (set q (6 * j) (v .place)) (6 * j + 1) (v .at) in-1) (changed (set (set q (6 * j) (v .place)) (6 * j + 1) (v .at)) (6 * j + 2) (v .depth) in-2) (changed (set (set (set q (6 * j) (v .place)) (6 * j + 1) (v .at)) (6 * j + 2) (v .depth)) (6 * j + 3) (v .shift) in-3) (changed (set (set (set (set q (6 * j) (v .place)) (6 * j + 1) (v .at)) (6 * j + 2) (v .depth)) (6 * j + 3) (v .shift)) (6 * j + 4) (v .cut) in-4) (changed (set (set (set (set (set q (6 * j) (v .place)) (6 * j + 1) (v .at)) (6 * j + 2) (v .depth)) (6 * j + 3) (v .shift)) (6 * j + 4) (v .cut)) (6 * j + 5) (v .scope) in-5)
 
 -- ---- Bytes moved.
 pub moved-none : (s w : List ℕ) (p to : ℕ) → Moved s w w p 0 to
@@ -146,3 +153,17 @@ module _ (mark : ℕ) {p e n c k to : ℕ} {s w : List ℕ} (x : Writable s w p 
             stands = rw (← add-one to) twice;
           });
         }
+
+-- ---- From the term, or from the work array.
+module _ (t : List ℕ) {w : List ℕ} {p e n c m to : ℕ} where
+  pub source-term : (b : Bool) → b ≡ true → Writable (cond b t w) w p e n c m to → Writable t w p e n c m to
+  source-term b h x = rw h at x
+
+  pub source-work : (b : Bool) → b ≡ false → Writable (cond b t w) w p e n c m to → Writable w w p e n c m to
+  source-work b h x = rw h at x
+
+  pub put-term : (mark : ℕ) (b : Bool) {w′ : List ℕ} {r : ℕ} → b ≡ true → Puts mark t w w′ p e n c m to r → Puts mark (cond b t w) w w′ p e n c m to r
+  put-term mark b h x = rw h x
+
+  pub put-work : (mark : ℕ) (b : Bool) {w′ : List ℕ} {r : ℕ} → b ≡ false → Puts mark w w w′ p e n c m to r → Puts mark (cond b t w) w w′ p e n c m to r
+  put-work mark b h x = rw h x

@@ -42,9 +42,9 @@ largest-falls (d ∷ ds) zero j h = zero-most (d ∷ ds) j
 largest-falls (d ∷ ds) (suc i) zero h = absurd (omega arith)
 largest-falls (d ∷ ds) (suc i) (suc j) h = largest-falls ds i j (omega arith)
 
-pub falling : List ℕ → ℕ → ℕ
-falling t at = largestFrom (degreesIn (decode t)) at * suc longestState + (length t - at)
+pub degreeAndSize : List ℕ → ℕ → ℕ
+degreeAndSize t at = largestFrom (degreesIn (decode t)) at * suc longestState + (length t - at)
 
-pub falls-on : (t : List ℕ) (i j : ℕ) → i ≤ j → i < length t → falling t (j + 1) < falling t i
-unfolding falling
+pub falls-on : (t : List ℕ) (i j : ℕ) → i ≤ j → i < length t → degreeAndSize t (j + 1) < degreeAndSize t i
+unfolding degreeAndSize
 falls-on t i j h l = omega (arith, largest-falls (degreesIn (decode t)) i (j + 1) (omega arith))

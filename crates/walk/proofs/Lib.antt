@@ -1,6 +1,13 @@
 -- The laws of this crate.
 -- Assumes nothing.
+pub mod Numbers
+pub mod Rules
+pub mod Measures
 pub mod Falls
-pub mod Own
-pub mod Walk
-pub mod Whole
+pub mod States
+pub mod Waits
+pub mod Enter
+pub mod Entering
+pub mod Turning
+pub mod Loop
+pub mod Beginning

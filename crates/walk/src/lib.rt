@@ -1,552 +1,917 @@
-// The walk of the check of a file: the one-pass rules on the bytes of the term, with the frame in a work array.
+// The walk of the check of a file: the one-pass rules (001, section 5.8) on the bytes of the term and of its copies. The frame's bytes
+// stand in a work array; one state is a struct of numbers, and one function takes it to the next.
 ghost use mathlib.Core.Path.{_≡_};
-ghost use Prim.Native.Nat.{_+_, _-_, _≤_, _<_};
+ghost use mathlib.Core.Bool.{true, false, cond};
+ghost use mathlib.Core.List.{List};
+ghost use Prim.Native.Nat.{ℕ, _+_, _-_, _*_, _≤_, _<_, max};
 ghost use lib.ListN.{length, getD};
-ghost use Rattle.code.specs.Code.{Tabled};
-ghost use Rattle.code.specs.Limits.{longestTerm};
-ghost use Rattle.code.specs.Refusals.{accepted};
+ghost use Rattle.calculus.specs.Terms.{liftIndex};
+ghost use Rattle.code.specs.Limits.{longestTerm, longestState, mostAbstractors};
 ghost use Rattle.frames.specs.Stored.{recordOf};
 ghost use Rattle.compare.specs.Sides.{Buffers};
-ghost use Rattle.walk.specs.State.{Sized};
-ghost use Rattle.walk.specs.Contracts.{OwnStated, OwnReady, InnerEnd, AbsHere, Passes, Ends, Checks, SizedFrom, TermAt, ExtentAt, WholeTerm, Walkable, WalkAnswer};
-use code::Deltas;
+ghost use Rattle.walk.specs.State.{textOf, arraysOf, Stated};
+ghost use Rattle.walk.specs.Contracts.{within, answering, going, pairing, completedOf, pastOf, metOf, typedOf, innerOf, checkedOf, TestAs, DueAs, TauTurn, WaitReady, WaitTurn, SizesKnown, AbstractorAt, Wagons, Known, Turns, InnerAt, Checks, Walkable, WholeAnswer, WalkAnswer};
 use code::numbers::ACCEPTED;
 use code::numbers::LONGEST_STATE;
 use code::numbers::LONGEST_TERM;
+use code::numbers::MOST_ABSTRACTORS;
+use code::numbers::NEVER;
 use code::numbers::OUTGROWN;
 use code::numbers::STILL_WAITING;
-use code::table;
 use compare::compare;
-use copies::Copying;
-use copies::Walked;
-use copies::copied;
-use copies::scope_or_fit;
-use copies::wide;
 use frames::FrameRecord;
 use frames::Starts;
 use frames::Work;
 use frames::empty_frame;
-use frames::entry_at_by;
-use frames::push;
 use indices::larger;
 use letters::Letters;
-use waiting::Extent;
-use waiting::QUEUE_LENGTH;
-use waiting::Queue;
+use texts::measure;
 use waiting::Slot;
-use waiting::fits;
+use waiting::put;
 use waiting::slot_at;
 use waiting::store_slot;
-use waiting::waiting_extent;
 use waiting::wide16;
-use waiting::write_from_text;
-use waiting::write_last_of_w;
 
-// A number for each place of the term.
-type Extents = [u16; LONGEST_TERM];
+// The answer where a lent list has no room for one more waiting applicator. No answer of a call is this one.
+pub const LIST_FULL: u32 = 254;
 
-// What follows an applicator or an abstractor of the term's own text: the answer so far, the frame, the top of W, the place.
-pub struct Advance {
-    pub out: Walked,
-    pub frame: FrameRecord,
+// So many numbers are enough for all that can wait: six for each of 6,144.
+pub const LONGEST_LIST: usize = 36864;
+
+// What a turn comes to: an answer, another state, or that what stands inside an applicator or an abstractor must be checked first.
+const ANSWER: u32 = 0;
+
+const STATE: u32 = 1;
+
+const INNER: u32 = 2;
+
+const COMPARE: u32 = 3;
+
+// What a walk answers: 0 or the number and the place of what stops it, the comparisons completed, where the next group is, and the
+// ground. For 8 this is how many wait; for 10 and 12 it is what `compare` says; else 0 0 0.
+pub struct Walked {
+    pub number: u32,
+    pub place: usize,
+    pub comparisons: usize,
+    pub next: usize,
+    pub first: usize,
+    pub second: usize,
+    pub third: usize,
+}
+
+// A state (R, W, B) of the term's own text or (R, W, Y, B) of copied text, but for its frame R.
+pub struct WalkState {
+    // B is the term's own text
+    pub own: bool,
+    // what stands inside B's first applicator or abstractor has been checked
+    pub checked: bool,
+    // B's bytes stand in the term; else in the work array
+    pub in_term: bool,
+    // where B begins in the term; in copied text, the variable that it stems from
+    pub place: usize,
+    // where B's bytes begin
+    pub from: usize,
+    // the place of the term's text that B is a copy of
+    pub origin: usize,
+    // B is seen lifted by `shift` above `cut`
+    pub shift: usize,
+    pub cut: usize,
+    // W stands in the list from `bottom` up to `middle`, and Y above it up to `top`
+    pub bottom: usize,
+    pub middle: usize,
     pub top: usize,
-    pub at: usize,
+    // of all that waits
+    pub size: usize,
+    pub scope: usize,
+    // the next group, and the comparisons completed
+    pub next: usize,
+    pub comparisons: usize,
 }
 
-// ---- The term's own text.
-// ⟨K⟩ at `at`, whose K ends at m, waits.
-fn pass_app(
-    file: &[u8],
-    t: &[u8],
-    scopes: &Extents,
-    work: &Work,
-    ws: &mut Queue,
-    ys: &Queue,
-    base: usize,
-    top: usize,
-    at: usize,
-    f: FrameRecord,
-    out: Walked,
-    m: usize,
-) -> Advance
-    requires { ⌜ OwnReady (now file) (now t) (now work) (now ws) (now ys) base top at f (out .next) (out .comparisons) × InnerEnd (now t) (now scopes) at m × (getD (now t) at 0 ≡ 0xfe) × (out .number ≡ accepted) ⌝ }
-    ensures { λ r. ⌜ Passes (now (file .entry)) (now (t .entry)) (now (work .entry)) (now (work .entry)) (now (ws .entry)) (now (ws .exit)) (now (ys .entry)) base top at f (out .next) (out .comparisons) r ⌝ }
-{
-    let y = waiting_extent(ws, base, top);
-    let v = Slot {
-        size: y.size + (m - at),
-        scope: larger(wide16(scopes[at + 1]), y.scope),
-        depth: f.len,
-        place: at,
-        end: m,
-        shift: 0,
-        cut: 0,
-    };
-    store_slot(ws, top, v);
-    Advance {
-        out,
-        frame: f,
-        top: top + 1,
-        at: m,
-    }
+// `entered` says that the frame has one more entry, whose bytes end at `end`.
+pub struct Turned {
+    pub kind: u32,
+    pub out: Walked,
+    pub state: WalkState,
+    pub entered: bool,
+    pub end: usize,
 }
 
-// [U] at `at`, whose U ends at m, while nothing waits.
-fn pass_alone(
-    file: &[u8],
-    t: &[u8],
-    scopes: &Extents,
-    work: &mut Work,
-    ws: &Queue,
-    ys: &Queue,
-    base: usize,
-    top: usize,
-    at: usize,
-    f: FrameRecord,
-    out: Walked,
-    m: usize,
-) -> Advance
-    requires { ⌜ OwnReady (now file) (now t) (now work) (now ws) (now ys) base top at f (out .next) (out .comparisons) × InnerEnd (now t) (now scopes) at m × AbsHere (now t) at × (out .number ≡ accepted) × (top ≡ base) ⌝ }
-    ensures { λ r. ⌜ Passes (now (file .entry)) (now (t .entry)) (now (work .entry)) (now (work .exit)) (now (ws .entry)) (now (ws .entry)) (now (ys .entry)) base top at f (out .next) (out .comparisons) r ⌝ }
+fn wide(x: u8) -> usize
+    ensures { λ r. ⌜ r ≡ x ⌝ }
 {
-    let to = f.end;
-    let b = write_from_text(t, work, 0xff, at + 1, m, to, 0, 0, 0);
-    let g = push(f, b);
-    Advance {
-        out,
-        frame: g,
-        top,
-        at: m,
-    }
+    x as usize
 }
 
-// [U] takes the last of W, and is compared.
-fn pass_pair(
-    file: &[u8],
-    t: &[u8],
-    scopes: &Extents,
-    work: &mut Work,
-    ws: &Queue,
-    ys: &Queue,
-    left: &mut Letters,
-    right: &mut Letters,
-    base: usize,
-    top: usize,
-    at: usize,
-    f: FrameRecord,
-    out: Walked,
-    m: usize,
-) -> Advance
-    requires { ⌜ OwnReady (now file) (now t) (now work) (now ws) (now ys) base top at f (out .next) (out .comparisons) × InnerEnd (now t) (now scopes) at m × AbsHere (now t) at × (out .number ≡ accepted) × (top ≡ base → ⊥) × Buffers (now left) (now right) ⌝ }
-    ensures { λ r. ⌜ Passes (now (file .entry)) (now (t .entry)) (now (work .entry)) (now (work .exit)) (now (ws .entry)) (now (ws .entry)) (now (ys .entry)) base top at f (out .next) (out .comparisons) r × Buffers (now (left .exit)) (now (right .exit)) ⌝ }
+fn answer(
+    number: u32,
+    place: usize,
+    first: usize,
+    second: usize,
+    third: usize,
+    s: WalkState,
+) -> Turned
+    ensures { λ r. ⌜ r ≡ answering number place first second third s ⌝ }
 {
-    let to = f.end;
-    let a = write_last_of_w(t, work, ws, base, top, f.len, to);
-    let b = write_from_text(t, work, 0xff, at + 1, m, a, 0, 0, 0);
-    let q = compare(file, out.next, work, f, a, b, left, right);
-    if q.number != ACCEPTED {
-        let v = slot_at(ws, top - 1);
-        let stop = Walked {
-            number: q.number,
-            place: v.place,
-            comparisons: out.comparisons,
-            next: out.next,
-        };
-        return Advance {
-            out: stop,
-            frame: f,
-            top,
-            at: m,
-        };
-    }
-    let g = push(f, b);
-    let next = Walked {
-        number: ACCEPTED,
-        place: 0,
-        comparisons: out.comparisons + 1,
-        next: q.next,
-    };
-    Advance {
-        out: next,
-        frame: g,
-        top: top - 1,
-        at: m,
-    }
-}
-
-// What follows an applicator or an abstractor at `at`, whose inside has passed.
-fn pass(
-    file: &[u8],
-    t: &[u8],
-    sizes: &Extents,
-    scopes: &Extents,
-    work: &mut Work,
-    ws: &mut Queue,
-    ys: &Queue,
-    left: &mut Letters,
-    right: &mut Letters,
-    base: usize,
-    top: usize,
-    at: usize,
-    f: FrameRecord,
-    out: Walked,
-) -> Advance
-    requires { ⌜ OwnReady (now file) (now t) (now work) (now ws) (now ys) base top at f (out .next) (out .comparisons) × Sized (now t) (now sizes) (now scopes) × (0xfe ≤ getD (now t) at 0) × (out .number ≡ accepted) × Buffers (now left) (now right) ⌝ }
-    ensures { λ r. ⌜ Passes (now (file .entry)) (now (t .entry)) (now (work .entry)) (now (work .exit)) (now (ws .entry)) (now (ws .exit)) (now (ys .entry)) base top at f (out .next) (out .comparisons) r × Buffers (now (left .exit)) (now (right .exit)) ⌝ }
-{
-    let m = at + 1 + wide16(sizes[at + 1]);
-    if t[at] == 0xfe {
-        return pass_app(file, t, scopes, work, ws, ys, base, top, at, f, out, m);
-    }
-    if top == base {
-        return pass_alone(file, t, scopes, work, ws, ys, base, top, at, f, out, m);
-    }
-    pass_pair(
-        file,
-        t,
-        scopes,
-        work,
-        ws,
-        ys,
-        left,
-        right,
-        base,
-        top,
-        at,
-        f,
-        out,
-        m,
-    )
-}
-
-fn halt(number: u32, place: usize, comparisons: usize, next: usize) -> Walked
-    ensures { λ r. ⌜ r ≡ record { number = number; place = place; comparisons = comparisons; next = next } ⌝ }
-{
-    Walked {
+    let out = Walked {
         number,
         place,
-        comparisons,
-        next,
+        comparisons: s.comparisons,
+        next: s.next,
+        first,
+        second,
+        third,
+    };
+    Turned {
+        kind: ANSWER,
+        out,
+        state: s,
+        entered: false,
+        end: 0,
     }
 }
 
-// The variable of the term's own text at `at`: (vii), and then (viii).
-fn variable(
-    file: &[u8],
-    deltas: &Deltas,
-    t: &[u8],
-    work: &mut Work,
-    ws: &Queue,
-    ys: &mut Queue,
-    left: &mut Letters,
-    right: &mut Letters,
-    base: usize,
-    top: usize,
-    at: usize,
-    starts: &Starts,
-    len: usize,
-    end: usize,
-    next: usize,
-    count: usize,
-) -> Walked
-    requires { ⌜ Tabled (now deltas) × OwnReady (now file) (now t) (now work) (now ws) (now ys) base top at (recordOf (now starts) len end) next count × (getD (now t) at 0 ≡ 0 → ⊥) × (getD (now t) at 0 < 0xfe) × Buffers (now left) (now right) ⌝ }
-    ensures { λ r. ⌜ Ends (now (file .entry)) (now (t .entry)) (now (work .entry)) (now (work .exit)) (now (ws .entry)) (now (ys .entry)) (now (ys .exit)) base top at (recordOf (now (starts .entry)) len end) next count r × Buffers (now (left .exit)) (now (right .exit)) ⌝ }
+fn onward(kind: u32, s: WalkState, entered: bool, end: usize) -> Turned
+    ensures { λ r. ⌜ r ≡ going kind s entered end ⌝ }
 {
-    let k = wide(t[at]);
-    let e = entry_at_by(deltas, work, starts, len, end, k);
-    let scope = scope_or_fit(work, e.domain, e.end, len);
-    let s = Copying {
-        top,
-        ytop: 0,
-        from: e.domain,
-        to: e.end,
+    let out = Walked {
+        number: ACCEPTED,
+        place: 0,
+        comparisons: s.comparisons,
+        next: s.next,
+        first: 0,
+        second: 0,
+        third: 0,
+    };
+    Turned {
+        kind,
+        out,
+        state: s,
+        entered,
+        end,
+    }
+}
+
+// A comparison is due.
+fn pair(s: WalkState, place: usize, a: usize, b: usize) -> Turned
+    ensures { λ r. ⌜ r ≡ pairing s place a b ⌝ }
+{
+    let out = Walked {
+        number: ACCEPTED,
+        place,
+        comparisons: s.comparisons,
+        next: s.next,
+        first: a,
+        second: 0,
+        third: 0,
+    };
+    Turned {
+        kind: COMPARE,
+        out,
+        state: s,
+        entered: true,
+        end: b,
+    }
+}
+
+// Whether a state whose B has `size` bytes and `scope` is within the limits, after a frame of len entries whose bytes end at `end`.
+fn fits(s: WalkState, len: usize, end: usize, size: usize, scope: usize) -> bool
+    requires { ⌜ (s .size < 65536) × (s .scope < 65536) × (len < 65536) × (end < 65536) × (size < 65536) × (scope < 65536) ⌝ }
+    ensures { λ r. ⌜ r ≡ within (end + (s .size + size)) (len + max (s .scope) scope) ⌝ }
+{
+    if end + (s.size + size) > LONGEST_STATE {
+        return false;
+    }
+    len + larger(s.scope, scope) <= MOST_ABSTRACTORS
+}
+
+// The test for 11. It was made already where what stands inside the first wagon has been checked.
+fn test(sizes: &[u16], scopes: &[u16], len: usize, end: usize, s: WalkState) -> bool
+    requires { ⌜ (s .size < 65536) × (s .scope < 65536) × (len < 65536) × (end < 65536) × (s .origin < length (now sizes)) × (s .origin < length (now scopes)) ⌝ }
+    ensures { λ r. ⌜ TestAs (now (sizes .entry)) (now (scopes .entry)) len end s r ⌝ }
+{
+    if s.checked {
+        return true;
+    }
+    let o = s.origin;
+    let n = wide16(sizes[o]);
+    let y = wide16(scopes[o]);
+    fits(s, len, end, n, y)
+}
+
+// Whether what stands inside the first wagon is to be checked first.
+fn due(s: WalkState) -> bool
+    ensures { λ r. ⌜ DueAs s r ⌝ }
+{
+    if s.checked {
+        return false;
+    }
+    s.own
+}
+
+fn symbol(t: &[u8], work: &Work, s: WalkState) -> u8
+    requires { ⌜ (s .from < length (cond (s .«in_term») (now t) (now work))) × (length (now work) ≡ longestState) ⌝ }
+    ensures { λ r. ⌜ r ≡ getD (cond (s .«in_term») (now (t .entry)) (now (work .entry))) (s .from) 0 ⌝ }
+{
+    let from = s.from;
+    if s.in_term {
+        return t[from];
+    }
+    work[from]
+}
+
+// (i) and (vi)
+fn at_tau(list: &[u16], s: WalkState) -> Turned
+    requires { ⌜ (s .bottom ≤ s .top) × (6 * s .top ≤ length (now list)) ⌝ }
+    ensures { λ r. ⌜ TauTurn (now (list .entry)) s r ⌝ }
+{
+    if s.middle < s.top {
+        return answer(NEVER, s.place, 0, 0, 0, s);
+    }
+    if s.bottom == s.top {
+        return answer(ACCEPTED, 0, 0, 0, 0, s);
+    }
+    let v = slot_at(list, s.top - 1);
+    answer(STILL_WAITING, v.place, s.top - s.bottom, 0, 0, s)
+}
+
+// The index b, seen lifted by n above c.
+fn seen_index(b: u8, n: usize, c: usize) -> usize
+    requires { ⌜ n ≤ mostAbstractors ⌝ }
+    ensures { λ r. ⌜ r ≡ liftIndex n c b ⌝ }
+{
+    let k = wide(b);
+    if k <= c {
+        return k;
+    }
+    k + n
+}
+
+// (vii)
+fn meet(s: WalkState) -> Turned
+    ensures { λ r. ⌜ r ≡ going 1 (metOf s) false 0 ⌝ }
+{
+    let z = WalkState {
+        own: false,
+        checked: false,
+        in_term: s.in_term,
+        place: s.place,
+        from: s.from,
+        origin: s.origin,
+        shift: s.shift,
+        cut: s.cut,
+        bottom: s.bottom,
+        middle: s.middle,
+        top: s.top,
+        size: s.size,
+        scope: s.scope,
+        next: s.next,
+        comparisons: s.comparisons,
+    };
+    onward(STATE, z, false, 0)
+}
+
+// (viii)
+fn replace(domains: &Starts, origins: &Starts, len: usize, s: WalkState, k: usize) -> Turned
+    requires { ⌜ (1 ≤ k) × (k ≤ len) × (len ≤ mostAbstractors) ⌝ }
+    ensures { λ r. ⌜ r ≡ going 1 (typedOf s k (getD (now (domains .entry)) (len - k) 0) (getD (now (origins .entry)) (len - k) 0)) false 0 ⌝ }
+{
+    let i = len - k;
+    let z = WalkState {
+        own: false,
+        checked: false,
+        in_term: false,
+        place: s.place,
+        from: wide16(domains[i]),
+        origin: wide16(origins[i]),
         shift: k,
         cut: 0,
-        scope,
-        next,
-        comparisons: count,
+        bottom: s.bottom,
+        middle: s.middle,
+        top: s.top,
+        size: s.size,
+        scope: s.scope,
+        next: s.next,
+        comparisons: s.comparisons,
     };
-    copied(
-        file,
-        deltas,
-        t,
-        work,
-        ws,
-        ys,
-        left,
-        right,
-        base,
-        at,
-        s,
-        starts,
-        len,
-        end,
-    )
+    onward(STATE, z, false, 0)
 }
 
-// The end of the term's own text: τ or a variable at `at`.
-fn own_end(
-    file: &[u8],
-    deltas: &Deltas,
+// The state past the first wagon, whose term has n bytes.
+fn past(
+    s: WalkState,
+    n: usize,
+    cut: usize,
+    middle: usize,
+    top: usize,
+    size: usize,
+    scope: usize,
+    next: usize,
+    comparisons: usize,
+) -> WalkState
+    requires { ⌜ (n < 65536) × (s .from < 65536) × (s .origin < 65536) ⌝ }
+    ensures { λ r. ⌜ r ≡ pastOf s n cut middle top size scope next comparisons ⌝ }
+{
+    let from = s.from + 1 + n;
+    let mut place = s.place;
+    if s.own {
+        place = from;
+    }
+    WalkState {
+        own: s.own,
+        checked: false,
+        in_term: s.in_term,
+        place,
+        from,
+        origin: s.origin + 1 + n,
+        shift: s.shift,
+        cut,
+        bottom: s.bottom,
+        middle,
+        top,
+        size,
+        scope,
+        next,
+        comparisons,
+    }
+}
+
+// (iii) and (ix): ⟨K⟩, whose K has n bytes and the scope y, waits.
+fn wait(list: &mut [u16], len: usize, s: WalkState, n: usize, y: usize) -> Turned
+    requires { ⌜ WaitReady len s n ⌝ }
+    ensures { λ r. ⌜ WaitTurn (now (list .entry)) (now (list .exit)) len s n y r ⌝ }
+{
+    let top = s.top;
+    if list.len() < 6 * top + 6 {
+        return answer(LIST_FULL, 0, 0, 0, 0, s);
+    }
+    let v = Slot {
+        place: s.origin,
+        at: s.from,
+        depth: len,
+        shift: s.shift,
+        cut: s.cut,
+        scope: s.scope,
+    };
+    store_slot(list, top, v);
+    let mut middle = s.middle;
+    if s.own {
+        middle = top + 1;
+    }
+    let z = past(
+        s,
+        n,
+        s.cut,
+        middle,
+        top + 1,
+        s.size + (1 + n),
+        larger(s.scope, y),
+        s.next,
+        s.comparisons,
+    );
+    onward(STATE, z, false, 0)
+}
+
+// [U], whose U has n bytes, while nothing waits: (iv) and (x).
+fn enter_alone(
     t: &[u8],
     work: &mut Work,
-    ws: &Queue,
-    ys: &mut Queue,
+    domains: &mut Starts,
+    origins: &mut Starts,
+    len: usize,
+    end: usize,
+    s: WalkState,
+    n: usize,
+) -> Turned
+    requires { ⌜ (s .bottom ≡ s .top) × ((file list starts : List ℕ) × AbstractorAt (textOf file (now t)) (arraysOf (now work) list (now domains) (now origins)) (recordOf starts len end) s n) ⌝ }
+    ensures { λ r. ⌜ ((file list starts a b : List ℕ) → AbstractorAt (textOf file (now (t .entry))) (arraysOf (now (work .entry)) list (now (domains .entry)) (now (origins .entry))) (recordOf starts len end) s n → Wagons (textOf file (now (t .entry))) (arraysOf (now (work .entry)) list (now (domains .entry)) (now (origins .entry))) (arraysOf (now (work .exit)) list (now (domains .exit)) (now (origins .exit))) (recordOf starts len end) s a b r) ⌝ }
+{
+    let from = s.from + 1;
+    let b = put(
+        t,
+        work,
+        0xff,
+        s.in_term,
+        from,
+        from + n,
+        end,
+        s.shift,
+        s.cut,
+        0,
+    );
+    domains[len] = (end + 1) as u16;
+    origins[len] = (s.origin + 1) as u16;
+    let z = past(
+        s,
+        n,
+        s.cut + 1,
+        s.middle,
+        s.top,
+        s.size,
+        s.scope,
+        s.next,
+        s.comparisons,
+    );
+    onward(STATE, z, true, b)
+}
+
+// [U], whose U has n bytes, takes the last of Y: (xii).
+fn enter_copied(
+    t: &[u8],
+    sizes: &[u16],
+    work: &mut Work,
+    list: &[u16],
+    domains: &mut Starts,
+    origins: &mut Starts,
+    len: usize,
+    end: usize,
+    s: WalkState,
+    n: usize,
+) -> Turned
+    requires { ⌜ SizesKnown (now t) (now sizes) × (s .middle < s .top) × ((file starts : List ℕ) × AbstractorAt (textOf file (now t)) (arraysOf (now work) (now list) (now domains) (now origins)) (recordOf starts len end) s n) ⌝ }
+    ensures { λ r. ⌜ ((file starts a b : List ℕ) → AbstractorAt (textOf file (now (t .entry))) (arraysOf (now (work .entry)) (now (list .entry)) (now (domains .entry)) (now (origins .entry))) (recordOf starts len end) s n → Wagons (textOf file (now (t .entry))) (arraysOf (now (work .entry)) (now (list .entry)) (now (domains .entry)) (now (origins .entry))) (arraysOf (now (work .exit)) (now (list .entry)) (now (domains .exit)) (now (origins .exit))) (recordOf starts len end) s a b r) ⌝ }
+{
+    let top = s.top - 1;
+    let v = slot_at(list, top);
+    let k = wide16(sizes[v.place + 1]);
+    let at = v.at + 1;
+    let a = put(
+        t,
+        work,
+        0xfe,
+        false,
+        at,
+        at + k,
+        end,
+        v.shift,
+        v.cut,
+        len - v.depth,
+    );
+    let from = s.from + 1;
+    let b = put(
+        t,
+        work,
+        0xff,
+        s.in_term,
+        from,
+        from + n,
+        a,
+        s.shift,
+        s.cut,
+        0,
+    );
+    domains[len] = (a + 1) as u16;
+    origins[len] = (s.origin + 1) as u16;
+    let z = past(
+        s,
+        n,
+        s.cut + 1,
+        s.middle,
+        top,
+        s.size - (1 + k),
+        v.scope,
+        s.next,
+        s.comparisons,
+    );
+    onward(STATE, z, true, b)
+}
+
+// [U], whose U has n bytes, takes the last of W: (v) and (xi). They are to be compared.
+fn enter_waiting(
+    t: &[u8],
+    sizes: &[u16],
+    work: &mut Work,
+    list: &[u16],
+    domains: &mut Starts,
+    origins: &mut Starts,
+    len: usize,
+    end: usize,
+    s: WalkState,
+    n: usize,
+) -> Turned
+    requires { ⌜ SizesKnown (now t) (now sizes) × (s .top ≤ s .middle) × (s .bottom ≡ s .top → ⊥) × ((file starts : List ℕ) × AbstractorAt (textOf file (now t)) (arraysOf (now work) (now list) (now domains) (now origins)) (recordOf starts len end) s n) ⌝ }
+    ensures { λ r. ⌜ ((file starts a b : List ℕ) → AbstractorAt (textOf file (now (t .entry))) (arraysOf (now (work .entry)) (now (list .entry)) (now (domains .entry)) (now (origins .entry))) (recordOf starts len end) s n → Wagons (textOf file (now (t .entry))) (arraysOf (now (work .entry)) (now (list .entry)) (now (domains .entry)) (now (origins .entry))) (arraysOf (now (work .exit)) (now (list .entry)) (now (domains .exit)) (now (origins .exit))) (recordOf starts len end) s a b r) ⌝ }
+{
+    let top = s.top - 1;
+    let v = slot_at(list, top);
+    let k = wide16(sizes[v.place + 1]);
+    let at = v.at + 1;
+    let a = put(
+        t,
+        work,
+        0xfe,
+        true,
+        at,
+        at + k,
+        end,
+        v.shift,
+        v.cut,
+        len - v.depth,
+    );
+    let from = s.from + 1;
+    let b = put(
+        t,
+        work,
+        0xff,
+        s.in_term,
+        from,
+        from + n,
+        a,
+        s.shift,
+        s.cut,
+        0,
+    );
+    domains[len] = (a + 1) as u16;
+    origins[len] = (s.origin + 1) as u16;
+    let z = past(
+        s,
+        n,
+        s.cut + 1,
+        top,
+        top,
+        s.size - (1 + k),
+        v.scope,
+        s.next,
+        s.comparisons,
+    );
+    pair(z, v.place, a, b)
+}
+
+// What stands inside the first wagon has been checked.
+fn checked(s: WalkState, next: usize, comparisons: usize) -> WalkState
+    ensures { λ r. ⌜ r ≡ checkedOf s next comparisons ⌝ }
+{
+    WalkState {
+        own: s.own,
+        checked: true,
+        in_term: s.in_term,
+        place: s.place,
+        from: s.from,
+        origin: s.origin,
+        shift: s.shift,
+        cut: s.cut,
+        bottom: s.bottom,
+        middle: s.middle,
+        top: s.top,
+        size: s.size,
+        scope: s.scope,
+        next,
+        comparisons,
+    }
+}
+
+// A comparison is completed, and the groups after it stand at `next`.
+fn completed(s: WalkState, next: usize) -> WalkState
+    requires { ⌜ s .comparisons < 65536 ⌝ }
+    ensures { λ r. ⌜ r ≡ completedOf s next ⌝ }
+{
+    WalkState {
+        own: s.own,
+        checked: false,
+        in_term: s.in_term,
+        place: s.place,
+        from: s.from,
+        origin: s.origin,
+        shift: s.shift,
+        cut: s.cut,
+        bottom: s.bottom,
+        middle: s.middle,
+        top: s.top,
+        size: s.size,
+        scope: s.scope,
+        next,
+        comparisons: s.comparisons + 1,
+    }
+}
+
+// One turn: the state is tested for 11, and replaced by its rule.
+fn turn(
+    t: &[u8],
+    sizes: &[u16],
+    scopes: &[u16],
+    work: &mut Work,
+    list: &mut [u16],
+    domains: &mut Starts,
+    origins: &mut Starts,
+    len: usize,
+    end: usize,
+    s: WalkState,
+) -> Turned
+    requires { ⌜ Known (now t) (now sizes) (now scopes) × ((file starts : List ℕ) × Stated (textOf file (now t)) (arraysOf (now work) (now list) (now domains) (now origins)) (recordOf starts len end) s) ⌝ }
+    ensures { λ r. ⌜ ((file starts a b : List ℕ) → Stated (textOf file (now (t .entry))) (arraysOf (now (work .entry)) (now (list .entry)) (now (domains .entry)) (now (origins .entry))) (recordOf starts len end) s → Turns (textOf file (now (t .entry))) (arraysOf (now (work .entry)) (now (list .entry)) (now (domains .entry)) (now (origins .entry))) (arraysOf (now (work .exit)) (now (list .exit)) (now (domains .exit)) (now (origins .exit))) (recordOf starts len end) s a b r) ⌝ }
+{
+    if !test(sizes, scopes, len, end, s) {
+        return answer(OUTGROWN, s.place, 0, 0, 0, s);
+    }
+    let b = symbol(t, work, s);
+    if b == 0 {
+        return at_tau(list, s);
+    }
+    if b < 0xfe {
+        if s.own {
+            return meet(s);
+        }
+        let k = seen_index(b, s.shift, s.cut);
+        return replace(domains, origins, len, s, k);
+    }
+    if due(s) {
+        return onward(INNER, s, false, 0);
+    }
+    let o = s.origin + 1;
+    let n = wide16(sizes[o]);
+    if b == 0xfe {
+        let y = wide16(scopes[o]);
+        return wait(list, len, s, n, y);
+    }
+    if s.bottom == s.top {
+        return enter_alone(t, work, domains, origins, len, end, s, n);
+    }
+    if s.middle < s.top {
+        return enter_copied(t, sizes, work, list, domains, origins, len, end, s, n);
+    }
+    enter_waiting(t, sizes, work, list, domains, origins, len, end, s, n)
+}
+
+// The check of a term from a state of its own text on: a loop of turns, and a call for what stands inside each applicator and
+// abstractor. The frame is lent in its parts and copied once, into a record that grows here.
+fn term(
+    file: &[u8],
+    t: &[u8],
+    sizes: &[u16],
+    scopes: &[u16],
+    work: &mut Work,
+    list: &mut [u16],
+    domains: &mut Starts,
+    origins: &mut Starts,
     left: &mut Letters,
     right: &mut Letters,
-    base: usize,
-    top: usize,
-    at: usize,
     starts: &Starts,
     len: usize,
     end: usize,
-    next: usize,
-    count: usize,
+    s: WalkState,
 ) -> Walked
-    requires { ⌜ Tabled (now deltas) × OwnStated (now file) (now t) (now work) (now ws) (now ys) base top at (recordOf (now starts) len end) next count × (getD (now t) at 0 < 0xfe) × Buffers (now left) (now right) ⌝ }
-    ensures { λ r. ⌜ Checks (now (file .entry)) (now (t .entry)) (now (work .entry)) (now (work .exit)) (now (ws .entry)) (now (ws .entry)) (now (ys .entry)) (now (ys .exit)) base top at (recordOf (now (starts .entry)) len end) next count r × Buffers (now (left .exit)) (now (right .exit)) ⌝ }
+    requires { ⌜ Known (now t) (now sizes) (now scopes) × Stated (textOf (now file) (now t)) (arraysOf (now work) (now list) (now domains) (now origins)) (recordOf (now starts) len end) s × Buffers (now left) (now right) ⌝ }
+    ensures { λ r. ⌜ Checks (textOf (now (file .entry)) (now (t .entry))) (arraysOf (now (work .entry)) (now (list .entry)) (now (domains .entry)) (now (origins .entry))) (arraysOf (now (work .exit)) (now (list .exit)) (now (domains .exit)) (now (origins .exit))) (recordOf (now (starts .entry)) len end) s (now (left .exit)) (now (right .exit)) r × Buffers (now (left .exit)) (now (right .exit)) ⌝ }
 {
-    if !fits(ws, ys, base, top, 0, end, len, 1, 0) {
-        return halt(OUTGROWN, at, count, next);
-    }
-    if t[at] != 0 {
-        return variable(
-            file,
-            deltas,
-            t,
-            work,
-            ws,
-            ys,
-            left,
-            right,
-            base,
-            top,
-            at,
-            starts,
-            len,
-            end,
-            next,
-            count,
-        );
-    }
-    if top == base {
-        return halt(ACCEPTED, 0, count, next);
-    }
-    let v = slot_at(ws, top - 1);
-    halt(STILL_WAITING, v.place, count, next)
-}
-
-// The term's own text from `at` on: a loop along it, and a call for the inside of each applicator and abstractor.
-fn term(
-    file: &[u8],
-    deltas: &Deltas,
-    t: &[u8],
-    sizes: &Extents,
-    scopes: &Extents,
-    work: &mut Work,
-    ws: &mut Queue,
-    ys: &mut Queue,
-    left: &mut Letters,
-    right: &mut Letters,
-    base: usize,
-    top: usize,
-    at: usize,
-    fr: FrameRecord,
-    next: usize,
-    count: usize,
-) -> Walked
-    requires { ⌜ Tabled (now deltas) × Sized (now t) (now sizes) (now scopes) × OwnStated (now file) (now t) (now work) (now ws) (now ys) base top at fr next count × Buffers (now left) (now right) ⌝ }
-    ensures { λ r. ⌜ Checks (now (file .entry)) (now (t .entry)) (now (work .entry)) (now (work .exit)) (now (ws .entry)) (now (ws .exit)) (now (ys .entry)) (now (ys .exit)) base top at fr next count r × Buffers (now (left .exit)) (now (right .exit)) ⌝ }
-{
-    let mut i = at;
-    let mut w = top;
-    let mut f = fr;
-    let mut n = next;
-    let mut k = count;
-    while t[i] >= 0xfe {
-        if !fits(ws, ys, base, w, 0, f.end, f.len, wide16(sizes[i]), 0) {
-            return halt(OUTGROWN, i, k, n);
-        }
-        let r = inside(
-            file,
-            deltas,
+    let own = *starts;
+    let mut f = FrameRecord {
+        starts: own,
+        len,
+        end,
+    };
+    let mut z = s;
+    loop {
+        let r = turn(
             t,
             sizes,
             scopes,
             work,
-            ws,
-            ys,
-            left,
-            right,
-            w,
-            i + 1,
-            f,
-            n,
-            k,
+            list,
+            domains,
+            origins,
+            f.len,
+            f.end,
+            z,
         );
-        if r.number != ACCEPTED {
-            return r;
+        let kind = r.kind;
+        if kind == ANSWER {
+            return r.out;
         }
-        let q = pass(
-            file,
-            t,
-            sizes,
-            scopes,
-            work,
-            ws,
-            ys,
-            left,
-            right,
-            base,
-            w,
-            i,
-            f,
-            r,
-        );
-        let o = q.out;
-        if o.number != ACCEPTED {
-            return o;
+        if kind == INNER {
+            let q = inside(
+                file,
+                t,
+                sizes,
+                scopes,
+                work,
+                list,
+                domains,
+                origins,
+                left,
+                right,
+                &f.starts,
+                f.len,
+                f.end,
+                z,
+            );
+            if q.number != ACCEPTED {
+                return q;
+            }
+            z = checked(z, q.next, q.comparisons);
+        } else {
+            let y = r.state;
+            let n = f.len;
+            let at = f.end;
+            if kind == COMPARE {
+                let o = r.out;
+                let q = compare(
+                    file,
+                    z.next,
+                    work,
+                    &f.starts,
+                    n,
+                    at,
+                    o.first,
+                    r.end,
+                    left,
+                    right,
+                );
+                if q.number != ACCEPTED {
+                    return Walked {
+                        number: q.number,
+                        place: o.place,
+                        comparisons: z.comparisons,
+                        next: z.next,
+                        first: q.first,
+                        second: q.second,
+                        third: q.third,
+                    };
+                }
+                z = completed(y, q.next);
+                f.starts[n] = at as u16;
+                f.len = n + 1;
+                f.end = r.end;
+            } else {
+                z = y;
+                if r.entered {
+                    f.starts[n] = at as u16;
+                    f.len = n + 1;
+                    f.end = r.end;
+                }
+            }
         }
-        let g = q.frame;
-        f = g;
-        n = o.next;
-        k = o.comparisons;
-        w = q.top;
-        i = q.at;
     }
-    own_end(
-        file,
-        deltas,
-        t,
-        work,
-        ws,
-        ys,
-        left,
-        right,
-        base,
-        w,
-        i,
-        &f.starts,
-        f.len,
-        f.end,
-        n,
-        k,
-    )
 }
 
-// The inside of an applicator or an abstractor: nothing waits.
+// What stands inside the first applicator or abstractor of the term's own text: nothing waits.
 fn inside(
     file: &[u8],
-    deltas: &Deltas,
     t: &[u8],
-    sizes: &Extents,
-    scopes: &Extents,
+    sizes: &[u16],
+    scopes: &[u16],
     work: &mut Work,
-    ws: &mut Queue,
-    ys: &mut Queue,
+    list: &mut [u16],
+    domains: &mut Starts,
+    origins: &mut Starts,
     left: &mut Letters,
     right: &mut Letters,
-    top: usize,
-    at: usize,
-    fr: FrameRecord,
-    next: usize,
-    count: usize,
+    starts: &Starts,
+    len: usize,
+    end: usize,
+    s: WalkState,
 ) -> Walked
-    requires { ⌜ Tabled (now deltas) × Sized (now t) (now sizes) (now scopes) × OwnStated (now file) (now t) (now work) (now ws) (now ys) top top at fr next count × Buffers (now left) (now right) ⌝ }
-    ensures { λ r. ⌜ Checks (now (file .entry)) (now (t .entry)) (now (work .entry)) (now (work .exit)) (now (ws .entry)) (now (ws .exit)) (now (ys .entry)) (now (ys .exit)) top top at fr next count r × Buffers (now (left .exit)) (now (right .exit)) ⌝ }
+    requires { ⌜ Known (now t) (now sizes) (now scopes) × InnerAt (textOf (now file) (now t)) (arraysOf (now work) (now list) (now domains) (now origins)) (recordOf (now starts) len end) s × Buffers (now left) (now right) ⌝ }
+    ensures { λ r. ⌜ Checks (textOf (now (file .entry)) (now (t .entry))) (arraysOf (now (work .entry)) (now (list .entry)) (now (domains .entry)) (now (origins .entry))) (arraysOf (now (work .exit)) (now (list .exit)) (now (domains .exit)) (now (origins .exit))) (recordOf (now (starts .entry)) len end) (innerOf s) (now (left .exit)) (now (right .exit)) r × Buffers (now (left .exit)) (now (right .exit)) ⌝ }
 {
+    let place = s.place + 1;
+    let z = WalkState {
+        own: true,
+        checked: false,
+        in_term: true,
+        place,
+        from: place,
+        origin: place,
+        shift: 0,
+        cut: 0,
+        bottom: s.top,
+        middle: s.top,
+        top: s.top,
+        size: 0,
+        scope: 0,
+        next: s.next,
+        comparisons: s.comparisons,
+    };
     term(
         file,
-        deltas,
         t,
         sizes,
         scopes,
         work,
-        ws,
-        ys,
+        list,
+        domains,
+        origins,
         left,
         right,
-        top,
-        top,
-        at,
-        fr,
-        next,
-        count,
+        starts,
+        len,
+        end,
+        z,
     )
 }
 
-// ---- Sizes and scopes.
-// Those of the term that starts at i, where those of all later ones are known.
-fn extent_at(t: &[u8], sizes: &Extents, scopes: &Extents, i: usize) -> Extent
-    requires { ⌜ SizedFrom (now t) (now sizes) (now scopes) (i + 1) × TermAt (now t) i ⌝ }
-    ensures { λ r. ⌜ ExtentAt (now (t .entry)) i r ⌝ }
-{
-    let b = t[i];
-    if b < 0xfe {
-        return Extent { size: 1, scope: 0 };
-    }
-    let a = wide16(sizes[i + 1]);
-    let m = i + 1 + a;
-    let x = wide16(scopes[i + 1]);
-    let c = wide16(sizes[m]);
-    let y = wide16(scopes[m]);
-    if b == 0xfe {
-        return Extent {
-            size: 1 + a + c,
-            scope: larger(x, y),
-        };
-    }
-    Extent {
-        size: 1 + a + c,
-        scope: larger(x, y + 1),
-    }
-}
-
-// Those of all the terms that stand in t, from the right.
-fn size_all(t: &[u8], sizes: &mut Extents, scopes: &mut Extents)
-    requires { ⌜ WholeTerm (now t) × (length (now sizes) ≡ longestTerm) × (length (now scopes) ≡ longestTerm) ⌝ }
-    ensures { λ r. ⌜ Sized (now (t .entry)) (now (sizes .exit)) (now (scopes .exit)) ⌝ }
-{
-    let mut i = t.len();
-    while i > 0 {
-        i -= 1;
-        let v = extent_at(t, sizes, scopes, i);
-        sizes[i] = v.size as u16;
-        scopes[i] = v.scope as u16;
-    }
-}
-
-// The check of the term t with the groups of the file that stand from `at` on.
-pub fn walk_term(file: &[u8], t: &[u8], at: usize) -> Walked
-    requires { ⌜ Walkable (now file) (now t) at ⌝ }
-    ensures { λ r. ⌜ WalkAnswer (now (file .entry)) (now (t .entry)) at r ⌝ }
+// The whole term, with the sizes and scopes of its text, and a list.
+fn whole(
+    file: &[u8],
+    t: &[u8],
+    at: usize,
+    sizes: &mut [u16],
+    scopes: &mut [u16],
+    list: &mut [u16],
+    left: &mut Letters,
+    right: &mut Letters,
+) -> Walked
+    requires { ⌜ Walkable (now file) (now t) at × (length (now t) ≤ length (now sizes)) × (length (now t) ≤ length (now scopes)) × Buffers (now left) (now right) ⌝ }
+    ensures { λ r. ⌜ WholeAnswer (now (file .entry)) (now (t .entry)) at (length (now (list .entry))) (now (left .exit)) (now (right .exit)) r × Buffers (now (left .exit)) (now (right .exit)) ⌝ }
 {
     let mut work: Work = [0; LONGEST_STATE];
-    let mut ws: Queue = [0; QUEUE_LENGTH];
-    let mut ys: Queue = [0; QUEUE_LENGTH];
-    let mut left: Letters = [0; LONGEST_TERM];
-    let mut right: Letters = [0; LONGEST_TERM];
-    let mut sizes: Extents = [0; LONGEST_TERM];
-    let mut scopes: Extents = [0; LONGEST_TERM];
-    let deltas = table();
-    size_all(t, &mut sizes, &mut scopes);
-    let fr = empty_frame();
+    let mut domains: Starts = [0; MOST_ABSTRACTORS];
+    let mut origins: Starts = [0; MOST_ABSTRACTORS];
+    measure(t, left, sizes, scopes);
+    let f = empty_frame();
+    let s = WalkState {
+        own: true,
+        checked: false,
+        in_term: true,
+        place: 0,
+        from: 0,
+        origin: 0,
+        shift: 0,
+        cut: 0,
+        bottom: 0,
+        middle: 0,
+        top: 0,
+        size: 0,
+        scope: 0,
+        next: at,
+        comparisons: 0,
+    };
     term(
         file,
-        &deltas,
         t,
-        &sizes,
-        &scopes,
+        sizes,
+        scopes,
         &mut work,
-        &mut ws,
-        &mut ys,
-        &mut left,
-        &mut right,
-        0,
-        0,
-        0,
-        fr,
+        list,
+        &mut domains,
+        &mut origins,
+        left,
+        right,
+        &f.starts,
+        f.len,
+        f.end,
+        s,
+    )
+}
+
+// The whole of a short term, in arrays of its own: it does not spend its time on clearing large ones. They may be too short for what
+// waits in copied text.
+fn short(file: &[u8], t: &[u8], at: usize, left: &mut Letters, right: &mut Letters) -> Walked
+    requires { ⌜ Walkable (now file) (now t) at × Buffers (now left) (now right) ⌝ }
+    ensures { λ r. ⌜ WholeAnswer (now (file .entry)) (now (t .entry)) at 768 (now (left .exit)) (now (right .exit)) r × Buffers (now (left .exit)) (now (right .exit)) ⌝ }
+{
+    if t.len() > 256 {
+        return Walked {
+            number: LIST_FULL,
+            place: 0,
+            comparisons: 0,
+            next: at,
+            first: 0,
+            second: 0,
+            third: 0,
+        };
+    }
+    let mut sizes: [u16; 256] = [0; 256];
+    let mut scopes: [u16; 256] = [0; 256];
+    let mut list: [u16; 768] = [0; 768];
+    whole(
+        file,
+        t,
         at,
-        0,
+        &mut sizes[..],
+        &mut scopes[..],
+        &mut list[..],
+        left,
+        right,
+    )
+}
+
+// The check of the term t with the groups of the file that stand from `at` on. After it the two lent arrays hold the bodies of the
+// last comparison.
+pub fn walk_term(
+    file: &[u8],
+    t: &[u8],
+    at: usize,
+    left: &mut Letters,
+    right: &mut Letters,
+) -> Walked
+    requires { ⌜ Walkable (now file) (now t) at × Buffers (now left) (now right) ⌝ }
+    ensures { λ r. ⌜ WalkAnswer (now (file .entry)) (now (t .entry)) at (now (left .exit)) (now (right .exit)) r × Buffers (now (left .exit)) (now (right .exit)) ⌝ }
+{
+    let r = short(file, t, at, left, right);
+    if r.number != LIST_FULL {
+        return r;
+    }
+    let mut sizes: [u16; LONGEST_TERM] = [0; LONGEST_TERM];
+    let mut scopes: [u16; LONGEST_TERM] = [0; LONGEST_TERM];
+    let mut list: [u16; LONGEST_LIST] = [0; LONGEST_LIST];
+    whole(
+        file,
+        t,
+        at,
+        &mut sizes[..],
+        &mut scopes[..],
+        &mut list[..],
+        left,
+        right,
     )
 }

@@ -1,5 +1,6 @@
 -- `compare::compare_sides` meets its contract.
 -- Assumes nothing.
+use mathlib.Core.Path.{refl}
 use native.Mathlib.Omega.{arith}
 use borrow.Author.Tests.{not-true, not-false}
 use Rattle.compare.proofs.Runs.{form-room, left-stops, right-stops, lengths-differ, letters-differ, letters-agree}
@@ -10,10 +11,10 @@ use Rattle.compare.proofs.replay.Reads as replay-reads
 use Rattle.letters.proofs.same.Reads as same-reads
 
 returns : tie.Need-returns
-returns c = (left-stops (c .before .before .replay .ensures) (c .if1 .taken), record { left-long = c .before .before .replay .ensures .array; right-long = c .before .before .before .before .before .pre .right-body .held .array })
+returns c = (left-stops (c .before .before .replay .ensures) refl (c .if1 .taken), record { left-long = c .before .before .replay .ensures .array; right-long = c .before .before .before .before .before .pre .right-body .held .array })
 
 returns-2 : tie.Need-returns-2
-returns-2 c = (right-stops (c .before .before .before .before .before .before .replay .ensures) (c .before .before .before .before .if1 .left) (c .before .before .replay2 .ensures) (c .if2 .taken), record { left-long = c .before .before .before .before .before .before .replay .ensures .array; right-long = c .before .before .replay2 .ensures .array })
+returns-2 c = (right-stops (c .before .before .before .before .before .before .replay .ensures) (c .before .before .before .before .if1 .left) (c .before .before .replay2 .ensures) refl (c .if2 .taken), record { left-long = c .before .before .before .before .before .before .replay .ensures .array; right-long = c .before .before .replay2 .ensures .array })
 
 returns-3 : tie.Need-returns-3
 returns-3 c = (lengths-differ (c .before .before .before .before .before .before .before .before .before .replay .ensures) (c .before .before .before .before .before .before .before .if1 .left) (c .before .before .before .before .before .replay2 .ensures) (c .before .before .before .if2 .left) (c .if3 .taken), record { left-long = c .before .before .before .before .before .before .before .before .before .replay .ensures .array; right-long = c .before .before .before .before .before .replay2 .ensures .array })

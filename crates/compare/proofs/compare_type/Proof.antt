@@ -1,9 +1,7 @@
 -- `compare::compare_type` meets its contract.
 -- Assumes nothing.
 use mathlib.Core.Path.{_∙_}
-use native.Mathlib.Omega.{arith}
 use borrow.Author.Tests.{not-true, not-false}
-use Rattle.code.proofs.Parts.{stands-start, stands-end}
 use Rattle.fields.proofs.Groups.{some-left}
 use Rattle.compare.proofs.Bodies.{answered}
 use Rattle.compare.proofs.Answers.{domain-loads, two-sides, typed-no-group, typed-large-domain, typed-sides}

@@ -1,7 +1,6 @@
 -- `compare::load` meets its contract, by the laws of Bodies.antt.
 -- Assumes nothing.
-use native.Mathlib.Omega.{arith}
-use Rattle.compare.proofs.Bodies.{load-ordered, load-long, load-readable, load-read}
+use Rattle.compare.proofs.Bodies.{load-long, load-readable, load-read}
 use borrow.Author.Needs.{needs}
 use Rattle.compare.proofs.load.Statement.{statement}
 use Rattle.compare.proofs.load.Tie as tie

@@ -9,10 +9,10 @@ use Rattle.compare.proofs.replay.Statement.{statement}
 use Rattle.compare.proofs.replay.Tie as tie
 
 abbrev Inv-loop : tie.InvT-loop
-Inv-loop file from to body₀ n work f at₀ len₀ body at len = Replaying file from to work f body₀ n body at len
+Inv-loop file from to side body₀ n work f at₀ len₀ step₀ body at len step = Replaying file from to work f body₀ n body at len step
 
 abbrev μ-loop : tie.MeasureT-loop
-μ-loop file from to body₀ n work f at₀ len₀ body at len = to - at
+μ-loop file from to side body₀ n work f at₀ len₀ step₀ body at len step = to - at
 
 loop-holds : tie.Need-loop-holds Inv-loop μ-loop
 loop-holds c = replaying-start (c .before .pre .0) (c .before .pre .1)
@@ -24,19 +24,22 @@ step-in-place-requires : tie.Need-step-in-place-requires Inv-loop μ-loop
 step-in-place-requires c κs = c .before .before .before .loop .inv .some
 
 returns : tie.Need-returns Inv-loop μ-loop
-returns c = replaying-refused (c .before .before .before .before .before .before .loop .inv) (c .before .before .before .before .before .loop-test .taken) (c .before .before .before .before .step-at .ensures .0) (c .before .before .step-in-place .ensures) (c .enum-told .given .1)
+returns c = replaying-refused (c .before .before .before .before .before .before .before .loop .inv) (c .before .before .before .before .before .before .loop-test .taken) (c .before .before .before .before .before .step-at .ensures .0) (c .before .before .before .step-in-place .ensures) (c .before .stepped .given .1)
 
 returns-2 : tie.Need-returns-2 Inv-loop μ-loop
-returns-2 c = replaying-outgrown (c .before .before .before .before .before .before .loop .inv) (c .before .before .before .before .before .loop-test .taken) (c .before .before .before .before .step-at .ensures .0) (c .before .before .step-in-place .ensures) (c .enum-told2 .given .1)
+returns-2 c = replaying-outgrown (c .before .before .before .before .before .before .loop .inv) (c .before .before .before .before .before .loop-test .taken) (c .before .before .before .before .step-at .ensures .0) (c .before .before .step-in-place .ensures) (c .enum-told .given .1)
 
 add-at : tie.Need-add-at Inv-loop μ-loop
 add-at c = let r = next-step (c .before .before .before .before .before .before .before .loop .inv .range) (c .before .before .before .before .before .before .loop-test .taken) .1 in omega (arith, r .ordered, r .inside)
+
+add-step : tie.Need-add-step Inv-loop μ-loop
+add-step c = let r = next-step (c .before .before .before .before .before .before .before .loop .inv .range) (c .before .before .before .before .before .before .loop-test .taken) .1 in omega (arith, r .ordered, r .inside, c .before .before .before .before .before .before .before .loop .inv .few)
 
 loop-less : tie.Need-loop-less Inv-loop μ-loop
 loop-less c = omega arith
 
 loop-again : tie.Need-loop-again Inv-loop μ-loop
-loop-again c = replaying-next (c .before .before .before .before .before .before .before .loop .inv) (c .before .before .before .before .before .before .loop-test .taken) (c .before .before .before .before .before .step-at .ensures .0) (c .before .before .before .step-in-place .ensures) (c .before .stepped .given .1)
+loop-again c = replaying-next (c .before .before .before .before .before .before .before .loop .inv) (c .before .before .before .before .before .before .loop-test .taken) (c .before .before .before .before .before .step-at .ensures .0) (c .before .before .before .step-in-place .ensures) (c .before .stepped2 .given .1)
 
 returns-3 : tie.Need-returns-3 Inv-loop μ-loop
 returns-3 c = replaying-end (c .before .loop .inv) (c .loop-test .left)
@@ -51,11 +54,13 @@ replay-spec =
     step-at-requires
     step-in-place-requires
     (λ c. search needs)
+    (λ c. search needs)
     returns
     (λ c. search needs)
     returns-2
     (λ c. search needs)
     add-at
+    add-step
     loop-less
     loop-again
     returns-3)

@@ -4,7 +4,7 @@ use native.Mathlib.Omega.{arith}
 use Prim.Native.Nat.{_-_, _+_, _≤_}
 use mathlib.Core.Path.{_≡_, refl}
 use borrow.Author.Needs.{needs}
-use Rattle.waiting.specs.Waiting.{Moved}
+use Rattle.waiting.specs.Writing.{Moved}
 use Rattle.waiting.proofs.Bytes.{moved-none, moved-more}
 use Rattle.waiting.proofs.copy_in.Statement.{statement}
 use Rattle.waiting.proofs.copy_in.Tie as tie

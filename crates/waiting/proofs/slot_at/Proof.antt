@@ -1,6 +1,5 @@
 -- `waiting::slot_at` meets its contract.
 -- Assumes nothing.
-use mathlib.Core.Path.{_≡_, refl}
 use borrow.Author.Needs.{needs}
 use Rattle.waiting.proofs.slot_at.Statement.{statement}
 use Rattle.waiting.proofs.slot_at.Tie as tie
@@ -14,8 +13,8 @@ mul-wide16 c = search needs
 mul-wide16-2 : tie.Need-mul-wide16-2
 mul-wide16-2 c = search needs
 
-element-copy-out-wide16 : tie.Need-element-copy-out-wide16
-element-copy-out-wide16 c = search needs
+shared-slice-read-wide16 : tie.Need-shared-slice-read-wide16
+shared-slice-read-wide16 c = search needs
 
 wide16-requires : tie.Need-wide16-requires
 wide16-requires c κs = search needs
@@ -29,8 +28,8 @@ add-wide16 c = search needs
 mul-wide16-4 : tie.Need-mul-wide16-4
 mul-wide16-4 c = search needs
 
-element-copy-out-wide16-2 : tie.Need-element-copy-out-wide16-2
-element-copy-out-wide16-2 c = search needs
+shared-slice-read-wide16-2 : tie.Need-shared-slice-read-wide16-2
+shared-slice-read-wide16-2 c = search needs
 
 wide16-requires-2 : tie.Need-wide16-requires-2
 wide16-requires-2 c κs = search needs
@@ -44,8 +43,8 @@ add-wide16-2 c = search needs
 mul-wide16-6 : tie.Need-mul-wide16-6
 mul-wide16-6 c = search needs
 
-element-copy-out-wide16-3 : tie.Need-element-copy-out-wide16-3
-element-copy-out-wide16-3 c = search needs
+shared-slice-read-wide16-3 : tie.Need-shared-slice-read-wide16-3
+shared-slice-read-wide16-3 c = search needs
 
 wide16-requires-3 : tie.Need-wide16-requires-3
 wide16-requires-3 c κs = search needs
@@ -59,8 +58,8 @@ add-wide16-3 c = search needs
 mul-wide16-8 : tie.Need-mul-wide16-8
 mul-wide16-8 c = search needs
 
-element-copy-out-wide16-4 : tie.Need-element-copy-out-wide16-4
-element-copy-out-wide16-4 c = search needs
+shared-slice-read-wide16-4 : tie.Need-shared-slice-read-wide16-4
+shared-slice-read-wide16-4 c = search needs
 
 wide16-requires-4 : tie.Need-wide16-requires-4
 wide16-requires-4 c κs = search needs
@@ -74,8 +73,8 @@ add-wide16-4 c = search needs
 mul-wide16-10 : tie.Need-mul-wide16-10
 mul-wide16-10 c = search needs
 
-element-copy-out-wide16-5 : tie.Need-element-copy-out-wide16-5
-element-copy-out-wide16-5 c = search needs
+shared-slice-read-wide16-5 : tie.Need-shared-slice-read-wide16-5
+shared-slice-read-wide16-5 c = search needs
 
 wide16-requires-5 : tie.Need-wide16-requires-5
 wide16-requires-5 c κs = search needs
@@ -89,29 +88,14 @@ add-wide16-5 c = search needs
 mul-wide16-12 : tie.Need-mul-wide16-12
 mul-wide16-12 c = search needs
 
-element-copy-out-wide16-6 : tie.Need-element-copy-out-wide16-6
-element-copy-out-wide16-6 c = search needs
+shared-slice-read-wide16-6 : tie.Need-shared-slice-read-wide16-6
+shared-slice-read-wide16-6 c = search needs
 
 wide16-requires-6 : tie.Need-wide16-requires-6
 wide16-requires-6 c κs = search needs
 
-mul-wide16-13 : tie.Need-mul-wide16-13
-mul-wide16-13 c = search needs
-
-add-wide16-6 : tie.Need-add-wide16-6
-add-wide16-6 c = search needs
-
-mul-wide16-14 : tie.Need-mul-wide16-14
-mul-wide16-14 c = search needs
-
-element-copy-out-wide16-7 : tie.Need-element-copy-out-wide16-7
-element-copy-out-wide16-7 c = search needs
-
-wide16-requires-7 : tie.Need-wide16-requires-7
-wide16-requires-7 c κs = search needs
-
 returns : tie.Need-returns
-returns c = (rw (c .before .before .before .before .before .before .before .before .before .before .before .before .wide16 .ensures .0, c .before .before .before .before .before .before .before .before .before .before .wide162 .ensures .0, c .before .before .before .before .before .before .before .before .wide163 .ensures .0, c .before .before .before .before .before .before .wide164 .ensures .0, c .before .before .before .before .wide165 .ensures .0, c .before .before .wide166 .ensures .0, c .wide167 .ensures .0), record { size-fits = c .before .before .before .before .before .before .before .before .before .before .before .before .wide16 .ensures .1; scope-fits = c .before .before .before .before .before .before .before .before .before .before .wide162 .ensures .1; depth-fits = c .before .before .before .before .before .before .before .before .wide163 .ensures .1; place-fits = c .before .before .before .before .before .before .wide164 .ensures .1; end-fits = c .before .before .before .before .wide165 .ensures .1; shift-fits = c .before .before .wide166 .ensures .1; cut-fits = c .wide167 .ensures .1 })
+returns c = (rw (c .before .before .before .before .before .before .before .before .before .before .wide16 .ensures .0, c .before .before .before .before .before .before .before .before .wide162 .ensures .0, c .before .before .before .before .before .before .wide163 .ensures .0, c .before .before .before .before .wide164 .ensures .0, c .before .before .wide165 .ensures .0, c .wide166 .ensures .0), record { place-fits = c .before .before .before .before .before .before .before .before .before .before .wide16 .ensures .1; at-fits = c .before .before .before .before .before .before .before .before .wide162 .ensures .1; depth-fits = c .before .before .before .before .before .before .wide163 .ensures .1; shift-fits = c .before .before .before .before .wide164 .ensures .1; cut-fits = c .before .before .wide165 .ensures .1; scope-fits = c .wide166 .ensures .1 })
 
 pub slot-at-spec : {M : Type 1} → statement M
 slot-at-spec =
@@ -119,36 +103,31 @@ slot-at-spec =
     (tie.spec
     mul-wide16
     mul-wide16-2
-    element-copy-out-wide16
+    shared-slice-read-wide16
     wide16-requires
     mul-wide16-3
     add-wide16
     mul-wide16-4
-    element-copy-out-wide16-2
+    shared-slice-read-wide16-2
     wide16-requires-2
     mul-wide16-5
     add-wide16-2
     mul-wide16-6
-    element-copy-out-wide16-3
+    shared-slice-read-wide16-3
     wide16-requires-3
     mul-wide16-7
     add-wide16-3
     mul-wide16-8
-    element-copy-out-wide16-4
+    shared-slice-read-wide16-4
     wide16-requires-4
     mul-wide16-9
     add-wide16-4
     mul-wide16-10
-    element-copy-out-wide16-5
+    shared-slice-read-wide16-5
     wide16-requires-5
     mul-wide16-11
     add-wide16-5
     mul-wide16-12
-    element-copy-out-wide16-6
+    shared-slice-read-wide16-6
     wide16-requires-6
-    mul-wide16-13
-    add-wide16-6
-    mul-wide16-14
-    element-copy-out-wide16-7
-    wide16-requires-7
     returns)

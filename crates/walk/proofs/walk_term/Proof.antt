@@ -1,33 +1,45 @@
 -- `walk::walk_term` meets its contract.
 -- Assumes nothing.
 use mathlib.Core.Path.{_≡_, refl}
-use Rattle.walk.proofs.Whole.{whole-term, begun, answered}
+use native.Mathlib.Omega.{arith}
+use Rattle.walk.proofs.Beginning.{whole-term, not-full, long-enough}
 use borrow.Author.Needs.{needs}
 use Rattle.walk.proofs.walk_term.Statement.{statement}
 use Rattle.walk.proofs.walk_term.Tie as tie
 use Rattle.walk.proofs.walk_term.Reads as reads
 use Rattle.walk.proofs.walk_term.Lts as lts
-use Rattle.code.proofs.table.Reads as table-reads
-use Rattle.frames.proofs.empty_frame.Reads as empty-frame-reads
-use Rattle.walk.proofs.size_all.Reads as size-all-reads
-use Rattle.walk.proofs.term.Reads as term-reads
+use Rattle.walk.proofs.short.Reads as short-reads
+use Rattle.walk.proofs.whole.Reads as whole-reads
 
-table-requires : tie.Need-table-requires
-table-requires c κs = search needs
-
-size-all-requires : tie.Need-size-all-requires
-size-all-requires c κs = (whole-term (c .before .before .before .before .before .pre), refl, refl)
-
-empty-frame-requires : tie.Need-empty-frame-requires
-empty-frame-requires c κs = search needs
-
-term-requires : tie.Need-term-requires
-term-requires c κs = (c .before .before .before .before .before .before .before .before .before .before .before .before .table .ensures, c .before .before .before .before .before .before .before .before .before .size-all .ensures, begun (c .before .before .before .before .before .before .before .before .before .before .before .before .before .before .before .pre) (c .before .before .before .before .before .before .before .before .empty-frame .ensures) refl refl refl, record { left-long = refl; right-long = refl })
+short-requires : tie.Need-short-requires
+short-requires c κs = search needs
 
 returns : tie.Need-returns
-returns c = answered (c .before .before .before .before .before .before .before .before .before .before .before .before .before .before .before .before .pre) (c .before .before .before .before .before .before .before .before .before .empty-frame .ensures) refl refl refl (c .term .ensures .0)
+returns c = (not-full (c .if1 .taken) (c .before .before .short .ensures .0), c .before .before .short .ensures .1)
+
+slice-aggregate-whole : tie.Need-slice-aggregate-whole
+slice-aggregate-whole c = search needs
+
+slice-aggregate-whole-2 : tie.Need-slice-aggregate-whole-2
+slice-aggregate-whole-2 c = search needs
+
+slice-aggregate-whole-3 : tie.Need-slice-aggregate-whole-3
+slice-aggregate-whole-3 c = search needs
+
+whole-requires : tie.Need-whole-requires
+whole-requires c κs = let w = whole-term (c .before .before .before .before .before .before .before .before .before .before .before .before .pre .0) in (c .before .before .before .before .before .before .before .before .before .before .before .before .pre .0, omega (arith, w .short), omega (arith, w .short), c .before .before .before .before .before .before .before .short .ensures .1)
+
+returns-2 : tie.Need-returns-2
+returns-2 c = (long-enough (c .before .before .before .whole .ensures .0), c .before .before .before .whole .ensures .1)
 
 pub walk-term-spec : {M : Type 1} → statement M
 walk-term-spec =
     tie.close
-    (tie.spec table-requires size-all-requires empty-frame-requires term-requires returns)
+    (tie.spec
+    short-requires
+    returns
+    slice-aggregate-whole
+    slice-aggregate-whole-2
+    slice-aggregate-whole-3
+    whole-requires
+    returns-2)

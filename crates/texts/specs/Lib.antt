@@ -1,0 +1,4 @@
+-- The definitions and contracts of this crate.
+-- Assumes nothing.
+pub mod Texts
+pub mod Contracts

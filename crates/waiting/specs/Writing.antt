@@ -1,0 +1,39 @@
+-- Terms written into the work array.
+-- Assumes nothing.
+use Prim.Native.Nat.{ℕ, suc, _+_, _≤_, _<_}
+use mathlib.Core.Path.{_≡_}
+use mathlib.Core.List.{List}
+use lib.ListN.{length, getD}
+use Rattle.calculus.specs.Terms.{Term, size, lift}
+use Rattle.code.specs.Limits.{longestTerm, longestState}
+use Rattle.code.specs.Code.{Coded}
+use Rattle.code.specs.Claims.{Stands}
+use Rattle.code.specs.Scope.{scope}
+use Rattle.frames.specs.Stored.{Agree}
+
+-- n bytes of s from p stand in w′ from `to`; below, w′ is w.
+pub record Moved (s w w′ : List ℕ) (p n to : ℕ) : Type 0 where
+  pub same-length : length w′ ≡ length w
+  pub below : Agree w w′ 0 to
+  pub same : (i : ℕ) → i < n → getD w′ (to + i) 0 ≡ getD s (p + i) 0
+
+-- A mark and then L were written from `to` up to e.
+pub record WrittenTerm (mark : ℕ) (w w′ : List ℕ) (to e : ℕ) (L : Term) : Type 0 where
+  pub work : length w′ ≡ longestState
+  pub below : Agree w w′ 0 to
+  pub marked : getD w′ to 0 ≡ mark
+  pub stands : Stands w′ (suc to) e L
+
+-- A term of s that can be written at `to`, lifted by n above c and then by m.
+pub record Writable (s w : List ℕ) (p e n c m to : ℕ) : Type 0 where
+  pub work : length w ≡ longestState
+  pub raw : Term
+  pub stands : Stands s p e raw
+  pub short : size raw ≤ longestTerm
+  pub cut : c + scope raw < longestTerm
+  pub first : Coded (lift n c raw)
+  pub second : Coded (lift m 0 (lift n c raw))
+  pub room : to + suc (size raw) ≤ longestState
+
+pub record Puts (mark : ℕ) (s w w′ : List ℕ) (p e n c m to r : ℕ) : Type 0 where
+  pub all : (K : Term) → Stands s p e K → WrittenTerm mark w w′ to r (lift m 0 (lift n c K))

@@ -1,0 +1,479 @@
+-- An abstractor: the entry that it makes, (iv), (v) and (x) to (xii).
+-- Assumes nothing.
+use Prim.Native.Nat.{ℕ, zero, suc, _+_, _-_, _*_, _≤_, _<_, max}
+use mathlib.Core.Path.{_≡_, refl, ap, sym, _∙_}
+use mathlib.Core.Bool.{Bool, true, false, cond}
+use mathlib.Core.List.{List, [], _∷_, map}
+use native.Mathlib.Omega.{arith}
+use native.Mathlib.Numerals.{add-one}
+use lib.ListN.{length, getD, set, length-set}
+use Rattle.calculus.specs.Terms.{Term, var, abs, size, lift, Closed, closed-abs}
+use Rattle.calculus.specs.Frames.{Entry, single, pair, domain, Frame, _▹_, depth}
+use Rattle.calculus.specs.Walks.{statesOf}
+use Rattle.calculus.proofs.Lift.{lift-zero, size-lift}
+use Rattle.code.specs.Limits.{longestFile, longestTerm, longestState, mostAbstractors}
+use Rattle.code.specs.Claims.{Stands}
+use Rattle.code.specs.Scope.{scope}
+use Rattle.code.proofs.Parts.{stands-start, stands-end}
+use Rattle.code.proofs.Scope.{scope-lift, closed-coded}
+use Rattle.fields.specs.Fields.{GroupAt, Groups}
+use Rattle.fields.proofs.Groups.{room as room-left}
+use Rattle.frames.specs.Stored.{Stored, Agree, EntryBytes, bytes-single, bytes-pair, pushed}
+use Rattle.frames.specs.declared.FrameRecord.{FrameRecord}
+use Rattle.frames.proofs.Entries.{agree-refl, agree-part, agree-trans, agree-set, stands-agree, bytes-start, bytes-end}
+use Rattle.frames.proofs.Laws.{stored-depth, stored-push, stored-agree}
+use Rattle.compare.specs.declared.Compared.{Compared}
+use Rattle.compare.specs.Compares.{Comparing, GroundIs, CompareSays, compare-passed, compare-stopped, Compares}
+use Rattle.compare.proofs.Grounds.{ground-number}
+use Rattle.texts.specs.Texts.{Origin}
+use Rattle.texts.proofs.Origins.{origin-abs, origin-lift}
+use Rattle.verdict.specs.Bounds.{waitingSize, waitingScope}
+use Rattle.verdict.specs.Verdict.{same-at, Progress, Run, passed, stopped, andThen, finish}
+use Rattle.waiting.specs.Waiting.{Waiting, termsOf, liftWaiting, Part, slotOf, Waits, Queue}
+use Rattle.waiting.specs.Writing.{WrittenTerm, Writable, Puts}
+use Rattle.waiting.specs.declared.Slot.{Slot}
+use Rattle.waiting.proofs.Texts.{positive, Two, text-abs}
+use Rattle.waiting.proofs.Queues.{size-lifted, scope-lifted, queue-empty, queue-base, Last, queue-last, queue-deeper, queue-agree, queue-before, raw-size, now-part, waits-writable, waits-written}
+use Rattle.walk.specs.State.{Text, Arrays, Sound, sound-single, sound-pair, Notes, Reached, stateOf, restOf, agendaOf, OwnText, StateAt}
+use Rattle.walk.specs.Contracts.{answering, going, pastOf, Halts, halts-compared, Says, says-stopped, Becomes, becomes-answer, becomes-state, Keeps, Onward}
+use Rattle.walk.specs.declared.WalkState.{WalkState}
+use Rattle.walk.specs.declared.Turned.{Turned}
+use Rattle.walk.proofs.Rules.{rest-alone, rest-waiting, rest-copied}
+use Rattle.walk.proofs.Measures.{fewer-abs}
+use Rattle.walk.proofs.Waits.{no-queue}
+use Rattle.walk.proofs.States.{no-confusion, sound-closed, notes-push, Room, body-size, body-scope, origin-bound}
+
+-- the next group is inside the file
+pub reached-inside : {file : List ℕ} {next count : ℕ} {p : Progress} → Reached file next count p → next ≤ longestFile
+reached-inside r = omega (arith, r .file-bound, room-left (r .stand))
+
+-- the arrays with one more entry
+abbrev pub entryArrays : Arrays → List ℕ → (n at origin : ℕ) → Arrays
+entryArrays m w n at origin = record { work = w; list = m .list; domains = set (m .domains) n at; origins = set (m .origins) n origin }
+
+part-at : {d d′ : ℕ} {t : Term} → d ≡ d′ → Part d t → Part d′ t
+part-at e q = rw (← e) q
+
+single-bytes : {w w′ : List ℕ} {p e : ℕ} {U : Term} → WrittenTerm 0xff w w′ p e U → EntryBytes w′ p (single U) e
+single-bytes u = bytes-single (u .marked) (u .stands)
+
+pair-bytes : {w w₁ w₂ : List ℕ} {p m e : ℕ} {K U : Term} → WrittenTerm 0xfe w w₁ p m K → WrittenTerm 0xff w₁ w₂ m e U → EntryBytes w₂ p (pair K U) e
+pair-bytes {p = p} {m = m} k u = bytes-pair (u .below .same p (omega arith) (omega (arith, stands-start (k .stands))) ∙ k .marked)
+    (stands-agree (k .stands) (agree-part (u .below) (omega arith) (omega arith)) (omega (arith, stands-start (u .stands), stands-end (u .stands)))) (u .marked) (u .stands)
+
+none-lifted : {Q : List Waiting} → Q ≡ [] → liftWaiting Q ≡ []
+unfolding liftWaiting
+none-lifted e = rw e
+
+fewer-is : (b : Bool) (R : Frame) (W W′ Q Q′ : List Waiting) (e : Entry) (B U X : Term) → B ≡ abs U X → domain e ≡ U → suc (statesOf (stateOf b (R ▹ e) W′ Q′ X)) ≤ statesOf (stateOf b R W Q B)
+fewer-is b R W W′ Q Q′ e B U X h g = rw (h, ← g) (fewer-abs b R W W′ Q Q′ e X)
+
+queue-to : {t s q : List ℕ} {d limit base before top top′ : ℕ} {W : List Waiting} → top ≡ top′ → Queue t s q d limit base before top W → Queue t s q d limit base before top′ W
+queue-to e x = rw (← e) x
+
+-- the runs of what is left
+run-alone : (b : Bool) (place : ℕ) {next : ℕ} (R : Frame) {W Q : List Waiting} {B U X : Term} (p : Progress) → B ≡ abs U X → W ≡ [] → Q ≡ [] → cond b (suc place + size U) place ≡ next
+    → finish (restOf b place R W Q B) p ≡ finish (agendaOf false b next (R ▹ single U) (liftWaiting W) (liftWaiting Q) X) p
+unfolding liftWaiting
+run-alone b place R {U = U} {X = X} p e w q g = rw (e, w, q, ← g) (rest-alone b place R U X p)
+
+run-copied : (b : Bool) (place next : ℕ) (R : Frame) (W : List Waiting) {Q Q′ : List Waiting} {B U X : Term} {w : Waiting} (p : Progress) → b ≡ false → B ≡ abs U X → Q ≡ w ∷ Q′
+    → finish (restOf b place R W Q B) p ≡ finish (agendaOf false b (cond b next place) (R ▹ pair (w .term) U) (liftWaiting W) (liftWaiting Q′) X) p
+run-copied b place next R W {Q′ = Q′} {U = U} {X = X} {w = w} p c e q = rw (c, e, q) (rest-copied place R W w Q′ U X p)
+
+run-waiting : (b : Bool) (place : ℕ) {next : ℕ} (R : Frame) {W W′ Q : List Waiting} {B U X : Term} {w : Waiting} (p : Progress) → B ≡ abs U X → W ≡ w ∷ W′ → Q ≡ [] → cond b (suc place + size U) place ≡ next
+    → finish (restOf b place R W Q B) p ≡ andThen (finish (same-at (w .place) R (w .term) U ∷ []) p) (finish (agendaOf false b next (R ▹ pair (w .term) U) (liftWaiting W′) [] X))
+run-waiting b place R {W′ = W′} {U = U} {X = X} {w = w} p e h q g = rw (e, h, q, ← g) (rest-waiting b place R w W′ U X p)
+
+module _ {x : Text} {m : Arrays} {f : FrameRecord} {s : WalkState} {R : Frame} {W Q : List Waiting} {B : Term} {p : Progress} (z : StateAt x m f s R W Q B p) (o : Room f s B)
+    (hi : 0xfe ≤ getD (cond (s .«in_term») (x .term) (m .work)) (s .from) 0) (no : getD (cond (s .«in_term») (x .term) (m .work)) (s .from) 0 ≡ 0xfe → ⊥) where
+  pub two-abs : Two (cond (s .«in_term») (x .term) (m .work)) (s .from) (z .end) (z .text) abs
+  two-abs = text-abs (z .stands) hi no
+
+  pub taken : Term
+  taken = lift (s .shift) (s .cut) (two-abs .one)
+
+  pub rest : Term
+  rest = lift (s .shift) (suc (s .cut)) (two-abs .two)
+
+  pub is-abs : B ≡ abs taken rest
+  unfolding lift taken rest
+  is-abs = z .seen ∙ ap (lift (s .shift) (s .cut)) (two-abs .is)
+
+  pub origins-abs : Origin (x .term) (s .origin + 1) (two-abs .one) × Origin (x .term) (s .origin + 1 + size (two-abs .one)) (two-abs .two)
+  origins-abs = origin-abs (rw (two-abs .is) at (z .origin))
+
+  sizes : size B ≡ suc (size (two-abs .one) + size (two-abs .two))
+  unfolding size
+  sizes = body-size z ∙ ap size (two-abs .is)
+
+  scopes : scope B ≡ max (scope (two-abs .one)) (suc (scope (two-abs .two)))
+  unfolding scope
+  scopes = body-scope z ∙ ap scope (two-abs .is)
+
+  parts-closed : Closed (f .len) taken × Closed (suc (f .len)) rest
+  parts-closed = go (rw is-abs at (z .closed))
+    where
+      go : {U X : Term} → Closed (f .len) (abs U X) → Closed (f .len) U × Closed (suc (f .len)) X
+      go (closed-abs a b) = (a, b)
+
+  not-met : {A : Type 0} → s .own ≡ false → s .«in_term» ≡ true → A
+  unfolding size
+  not-met a b = let k = z .met a b in absurd (omega (arith, ap size (k .1), ap size (two-abs .is), positive (two-abs .one)))
+
+  pub fewer-entries : f .len < mostAbstractors
+  fewer-entries = omega (arith, o .body-fits, scopes)
+
+  taken-size : size taken ≡ size (two-abs .one)
+  unfolding taken
+  taken-size = size-lift (s .shift) (s .cut) (two-abs .one)
+
+  taken-part : Part (f .len) taken
+  unfolding taken
+  taken-part = record {
+    closed = parts-closed .0;
+    shallow = omega (arith, o .body-fits, scopes, scope-lift (s .shift) (s .cut) (two-abs .one));
+    short = omega (arith, sizes, origin-bound z, taken-size);
+  }
+
+  taken-origin : Origin (x .term) (s .origin + 1) taken
+  unfolding taken
+  taken-origin = origin-lift (s .shift) (s .cut) (origins-abs .0)
+
+  module _ {n : ℕ} (e : n ≡ size (two-abs .one)) where
+    mid : s .from + 1 + n ≡ two-abs .mid
+    mid = omega (arith, two-abs .first .place)
+
+    pub past-bounds : (n < 65536) × (s .from < 65536) × (s .origin < 65536)
+    past-bounds = (omega (arith, sizes, o .fits), by-source (s .«in_term») refl, omega (arith, origin-bound z))
+      where
+        by-source : (b : Bool) → s .«in_term» ≡ b → s .from < 65536
+        by-source true e = omega (arith, stands-start (rw e at (z .stands)), stands-end (rw e at (z .stands)), z .term-short)
+        by-source false e = omega (arith, stands-start (rw e at (z .stands)), stands-end (rw e at (z .stands)), z .stored .work)
+
+    -- U, where the bytes below the frame's end are as they were
+    module _ {w₁ : List ℕ} (l : length w₁ ≡ longestState) (g : Agree (m .work) w₁ 0 (f .end)) where
+      source-now : (b : Bool) → s .«in_term» ≡ b → {q e : ℕ} {X : Term} → e ≤ z .end → Stands (cond b (x .term) (m .work)) q e X → Stands (cond b (x .term) w₁) q e X
+      source-now true i j h = h
+      source-now false i j h = stands-agree h (agree-part g (omega arith) (omega (arith, z .inside i))) (omega (arith, z .inside i, z .stored .inside))
+
+      first-now : Stands (cond (s .«in_term») (x .term) w₁) (s .from + 1) (s .from + 1 + n) (two-abs .one)
+      first-now = rw mid (source-now (s .«in_term») refl (omega (arith, stands-start (two-abs .second))) (two-abs .first))
+
+      second-now : Stands (cond (s .«in_term») (x .term) w₁) (s .from + 1 + n) (z .end) (two-abs .two)
+      second-now = rw mid (source-now (s .«in_term») refl (omega arith) (two-abs .second))
+
+      pub domain-writable : {to : ℕ} → f .end ≤ to → to + suc (size (two-abs .one)) ≤ longestState
+          → (s .cut < 65536) × (s .«in_term» ≡ false → s .from + 1 + n ≤ to) × Writable (cond (s .«in_term») (x .term) w₁) w₁ (s .from + 1) (s .from + 1 + n) (s .shift) (s .cut) 0 to
+      unfolding taken
+      domain-writable {to} a r = (
+        omega (arith, z .cut-bound, z .stored .few),
+        (λ i. omega (arith, mid, stands-start (two-abs .second), z .inside i)),
+        record {
+          work = l;
+          raw = two-abs .one;
+          stands = first-now;
+          short = omega (arith, taken-part .short, taken-size);
+          cut = omega (arith, taken-part .shallow, scope-lift (s .shift) (s .cut) (two-abs .one), z .cut-bound, z .stored .few);
+          first = closed-coded (taken-part .closed) (taken-part .shallow);
+          second = rw (lift-zero 0 (lift (s .shift) (s .cut) (two-abs .one))) (closed-coded (taken-part .closed) (taken-part .shallow));
+          room = r;
+        },
+      )
+
+      pub domain-written : {w₂ : List ℕ} {to r : ℕ} → Puts 0xff (cond (s .«in_term») (x .term) w₁) w₁ w₂ (s .from + 1) (s .from + 1 + n) (s .shift) (s .cut) 0 to r → WrittenTerm 0xff w₁ w₂ to r taken
+      unfolding taken
+      domain-written u = rw (lift-zero 0 (lift (s .shift) (s .cut) (two-abs .one))) at (u .all (two-abs .one) first-now)
+
+    -- the state after the entry
+    place-now : (b : Bool) → s .own ≡ b → cond b (s .from + 1 + n) (s .place) < length (x .term)
+    place-now true i =
+        let u = ap (λ k. cond k (x .term) (m .work)) (z .own-text i .in-term) in
+        let v : Stands (x .term) (two-abs .mid) (z .end) (two-abs .two) = rw u at (two-abs .second) in
+        omega (arith, mid, stands-start v, stands-end v)
+    place-now false i = z .place-bound
+
+    place-later : (b : Bool) → s .own ≡ b → s .place ≤ cond b (s .from + 1 + n) (s .place)
+    place-later true i = omega (arith, z .own-text i .at-place)
+    place-later false i = omega arith
+
+    pub further : s .place ≤ cond (s .own) (s .from + 1 + n) (s .place)
+    further = place-later (s .own) refl
+
+    entered : (t : Entry) {w₂ : List ℕ} {at b middle top total widest next comparisons : ℕ} {W′ Q′ : List Waiting} {q : Progress} → domain t ≡ taken → Sound (R ▹ t) → length w₂ ≡ longestState → Agree (m .work) w₂ 0 (f .end)
+        → EntryBytes w₂ (f .end) t b → Stands w₂ at b taken → Queue (x .term) (x .term) (m .list) (f .len) (length (x .term)) (s .bottom) 0 middle W′ → Queue (x .term) (m .work) (m .list) (f .len) (f .end) middle (waitingScope (termsOf W′)) top Q′
+        → middle ≤ s .middle → top ≤ s .top → (s .own ≡ true → (Q′ ≡ []) × (middle ≡ top)) → total ≡ waitingSize (termsOf W′) + waitingSize (termsOf Q′) → widest ≡ max (waitingScope (termsOf W′)) (waitingScope (termsOf Q′))
+        → total ≤ longestState → widest ≤ mostAbstractors → Reached (x .file) next comparisons q
+        → StateAt x (entryArrays m w₂ (f .len) at (s .origin + 1)) (pushed f b) (pastOf s n (s .cut + 1) middle top total widest next comparisons) (R ▹ t) (liftWaiting W′) (liftWaiting Q′) rest q
+    unfolding rest
+    entered t {w₂} {at} {b} {middle} {top} {total} {widest} {next} {comparisons} {W′} {Q′} td d l a y k v u mt tp ow si sc sb cb r =
+        let later = further in
+        let inside-now = place-now (s .own) refl in
+        record {
+          term-short = z .term-short;
+          stored = stored-push (z .stored) a l y fewer-entries;
+          sound = d;
+          notes = notes-push {e = b} a (omega (arith, l, z .stored .inside)) (omega (arith, bytes-start y)) (omega (arith, z .domains-long, fewer-entries)) (omega (arith, z .origins-long, fewer-entries)) (z .notes) (rw td k) (omega arith) (rw td taken-origin);
+          domains-long = length-set (m .domains) (f .len) at ∙ z .domains-long;
+          origins-long = length-set (m .origins) (f .len) (s .origin + 1) ∙ z .origins-long;
+          waits = rw (add-one (f .len)) (queue-deeper v);
+          copies = rw (add-one (f .len)) (queue-before (sym (scope-lifted W′)) (queue-deeper (queue-agree a (omega (arith, l, z .stored .inside)) (omega (arith, bytes-start y)) u)));
+          listed = omega (arith, z .listed);
+          few-waiting = omega (arith, later, z .few-waiting);
+          place-bound = inside-now;
+          size-is = omega (arith, si, size-lifted W′, size-lifted Q′);
+          scope-is = omega (arith, sc, scope-lifted W′, scope-lifted Q′);
+          size-bound = sb;
+          scope-bound = cb;
+          text = two-abs .two;
+          end = z .end;
+          stands = second-now l a;
+          inside = λ i. omega (arith, z .inside i, bytes-start y);
+          origin = rw e (origins-abs .1);
+          seen = ap (λ c. lift (s .shift) c (two-abs .two)) (sym (add-one (s .cut)));
+          shift-bound = z .shift-bound;
+          cut-bound = omega (arith, z .cut-bound);
+          closed = rw (add-one (f .len)) (parts-closed .1);
+          own-text = λ i. own-now i (ow i);
+          met = λ i j. not-met i j;
+          inner = λ i. no-confusion i;
+          reached = r;
+        }
+      where
+        own-now : s .own ≡ true → (Q′ ≡ []) × (middle ≡ top) → OwnText (pastOf s n (s .cut + 1) middle top total widest next comparisons) (liftWaiting Q′)
+        own-now i g =
+            let t = z .own-text i in
+            let u : cond (s .own) (s .from + 1 + n) (s .place) ≡ s .from + 1 + n = ap (λ k. cond k (s .from + 1 + n) (s .place)) i in
+            record { in-term = t .in-term; at-place = sym u; itself = omega (arith, u, t .at-place, t .itself); unlifted = t .unlifted; no-copies = none-lifted (g .0); tops = g .1 }
+
+    -- where the rest is
+    place-is : (b : Bool) → s .own ≡ b → cond b (suc (s .place) + size taken) (s .place) ≡ cond b (s .from + 1 + n) (s .place)
+    place-is true i = omega (arith, z .own-text i .at-place, taken-size)
+    place-is false i = refl
+
+    -- (iv) and (x)
+    module _ (q : s .bottom ≡ s .top) where
+      no-w : W ≡ []
+      no-w = queue-empty (z .waits) (omega (arith, queue-base (z .waits), queue-base (z .copies)))
+
+      no-q : Q ≡ []
+      no-q = queue-empty (z .copies) (omega (arith, queue-base (z .waits), queue-base (z .copies)))
+
+      pub alone-room : f .end + suc (size (two-abs .one)) ≤ longestState
+      alone-room = omega (arith, o .fits, sizes)
+
+      pub alone-becomes : {w₂ : List ℕ} {b : ℕ} (a c : List ℕ) → WrittenTerm 0xff (m .work) w₂ (f .end) b taken
+          → Becomes x (entryArrays m w₂ (f .len) (f .end + 1) (s .origin + 1)) f s a c (going 1 (pastOf s n (s .cut + 1) (s .middle) (s .top) (s .size) (s .scope) (s .next) (s .comparisons)) true b)
+          (statesOf (stateOf (s .own) R W Q B)) (finish (restOf (s .own) (s .place) R W Q B) p)
+      unfolding domain
+      alone-becomes a c u = becomes-state refl
+          (entered (single taken) refl (sound-single (z .sound) (part-at (sym (stored-depth (z .stored))) taken-part)) (u .work) (u .below) (single-bytes u) (rw add-one (u .stands)) (z .waits) (z .copies)
+          (omega arith) (omega arith) (λ i. (no-q, z .own-text i .tops)) (z .size-is) (z .scope-is) (z .size-bound) (z .scope-bound) (z .reached))
+          refl (fewer-is (s .own) R W (liftWaiting W) Q (liftWaiting Q) (single taken) B taken rest is-abs refl) (run-alone (s .own) (s .place) R p is-abs no-w no-q (place-is (s .own) refl))
+
+    -- the last that waits
+    module _ {src : List ℕ} {limit base before top : ℕ} {L : List Waiting} (l : Last (x .term) src (m .list) (f .len) limit base before top L)
+        (fit : f .end + (suc (size (l .last .term)) + suc (size (two-abs .one))) ≤ longestState) (sc : f .len + scope (l .last .term) ≤ mostAbstractors)
+        {v : Slot} (q : v ≡ slotOf (m .list) (top - 1)) {k : ℕ} (g : k ≡ size (l .slot .raw)) where
+      last-size : size (l .last .term) ≡ k
+      last-size = raw-size (l .slot) ∙ sym g
+
+      last-end : v .at + 1 + k ≡ l .slot .end
+      last-end = omega (arith, ap (λ u. u .at) q, l .slot .stands .place)
+
+      pub applied-writable : Writable src (m .work) (v .at + 1) (v .at + 1 + k) (v .shift) (v .cut) (f .len - v .depth) (f .end)
+      applied-writable = rw (last-end, q) (waits-writable (l .slot) (z .stored .work) (omega arith) sc)
+
+      module _ {w₁ : List ℕ} {a : ℕ} (u : Puts 0xfe src (m .work) w₁ (v .at + 1) (v .at + 1 + k) (v .shift) (v .cut) (f .len - v .depth) (f .end) a) where
+        pub applied-written : WrittenTerm 0xfe (m .work) w₁ (f .end) a (l .last .term)
+        applied-written = waits-written (l .slot) (rw (last-end, q) at u)
+
+        pub applied-past : (a ≡ f .end + suc (size (l .last .term))) × (f .end ≤ a) × (a + suc (size (two-abs .one)) ≤ longestState)
+        applied-past = let h = applied-written .stands .place in (omega arith, omega arith, omega arith)
+
+        pub domain-asked : (s .cut < 65536) × (s .«in_term» ≡ false → s .from + 1 + n ≤ a) × Writable (cond (s .«in_term») (x .term) w₁) w₁ (s .from + 1) (s .from + 1 + n) (s .shift) (s .cut) 0 a
+        domain-asked = domain-writable (applied-written .work) (applied-written .below) (applied-past .1) (applied-past .2)
+
+        module _ {w₂ : List ℕ} {b : ℕ} (t : Puts 0xff (cond (s .«in_term») (x .term) w₁) w₁ w₂ (s .from + 1) (s .from + 1 + n) (s .shift) (s .cut) 0 a b) where
+          pub domain-whole : WrittenTerm 0xff w₁ w₂ a b taken
+          domain-whole = domain-written (applied-written .work) (applied-written .below) t
+
+          pub pair-below : Agree (m .work) w₂ 0 (f .end)
+          pair-below = agree-trans (applied-written .below) (agree-part (domain-whole .below) (omega arith) (applied-past .1))
+
+          pub pair-end : f .end ≤ b
+          pair-end = omega (arith, applied-past .1, stands-start (domain-whole .stands))
+
+          pub pair-bounds : (a + 1 < 65536) × (b < 65536)
+          pair-bounds = (omega (arith, applied-past .2), omega (arith, stands-end (domain-whole .stands), domain-whole .work))
+
+          applied-now : Stands w₂ (suc (f .end)) a (l .last .term)
+          applied-now = stands-agree (applied-written .stands) (agree-part (domain-whole .below) (omega arith) (omega arith)) (omega (arith, domain-whole .work, stands-start (domain-whole .stands), stands-end (domain-whole .stands)))
+
+          applied-part : Part (f .len) (l .last .term)
+          applied-part = now-part (l .slot) sc
+
+          pair-sound : Sound (R ▹ pair (l .last .term) taken)
+          pair-sound = sound-pair (z .sound) (part-at (sym (stored-depth (z .stored))) applied-part) (part-at (sym (stored-depth (z .stored))) taken-part)
+
+          -- with the last taken
+          pair-entered : {middle top total widest next comparisons : ℕ} {W′ Q′ : List Waiting} {y : Progress} → Queue (x .term) (x .term) (m .list) (f .len) (length (x .term)) (s .bottom) 0 middle W′
+              → Queue (x .term) (m .work) (m .list) (f .len) (f .end) middle (waitingScope (termsOf W′)) top Q′ → middle ≤ s .middle → top ≤ s .top → (s .own ≡ true → (Q′ ≡ []) × (middle ≡ top))
+              → total ≡ waitingSize (termsOf W′) + waitingSize (termsOf Q′) → widest ≡ max (waitingScope (termsOf W′)) (waitingScope (termsOf Q′)) → total ≤ longestState → widest ≤ mostAbstractors → Reached (x .file) next comparisons y
+              → StateAt x (entryArrays m w₂ (f .len) (a + 1) (s .origin + 1)) (pushed f b) (pastOf s n (s .cut + 1) middle top total widest next comparisons) (R ▹ pair (l .last .term) taken) (liftWaiting W′) (liftWaiting Q′) rest y
+          unfolding domain
+          pair-entered = entered (pair (l .last .term) taken) refl pair-sound (domain-whole .work) pair-below (pair-bytes applied-written domain-whole) (rw add-one (domain-whole .stands))
+
+    -- (xii)
+    module _ (y : s .middle < s .top) where
+      is-copied : s .own ≡ false
+      is-copied = by-text (s .own) refl
+        where
+          by-text : (b : Bool) → s .own ≡ b → b ≡ false
+          by-text true i = absurd (omega (arith, z .own-text i .tops))
+          by-text false i = refl
+
+      pub last-copied : Last (x .term) (m .work) (m .list) (f .len) (f .end) (s .middle) (waitingScope (termsOf W)) (s .top) Q
+      last-copied = queue-last (z .copies) (λ i. omega arith)
+
+      sizes-copied : (waitingSize (termsOf Q) ≡ suc (size (last-copied .last .term)) + waitingSize (termsOf (last-copied .others))) × (waitingScope (termsOf Q) ≡ max (scope (last-copied .last .term)) (waitingScope (termsOf (last-copied .others))))
+      unfolding waitingSize waitingScope termsOf
+      sizes-copied = (ap (λ k. waitingSize (termsOf k)) (last-copied .is), ap (λ k. waitingScope (termsOf k)) (last-copied .is))
+
+      pub copied-fits : (f .end + (suc (size (last-copied .last .term)) + suc (size (two-abs .one))) ≤ longestState) × (f .len + scope (last-copied .last .term) ≤ mostAbstractors)
+      copied-fits = (omega (arith, o .fits, sizes, z .size-is, sizes-copied .0), omega (arith, o .waits-fit, z .scope-is, sizes-copied .1))
+
+      module _ {v : Slot} (q : v ≡ slotOf (m .list) (s .top - 1)) {k : ℕ} (g : k ≡ size (last-copied .slot .raw)) {w₁ w₂ : List ℕ} {a b : ℕ}
+          (u : Puts 0xfe (m .work) (m .work) w₁ (v .at + 1) (v .at + 1 + k) (v .shift) (v .cut) (f .len - v .depth) (f .end) a)
+          (t : Puts 0xff (cond (s .«in_term») (x .term) w₁) w₁ w₂ (s .from + 1) (s .from + 1 + n) (s .shift) (s .cut) 0 a b) where
+        pub copied-size : 1 + k ≤ s .size
+        copied-size = omega (arith, z .size-is, sizes-copied .0, raw-size (last-copied .slot))
+
+        pub copied-becomes : (c d : List ℕ) → Becomes x (entryArrays m w₂ (f .len) (a + 1) (s .origin + 1)) f s c d
+            (going 1 (pastOf s n (s .cut + 1) (s .middle) (s .top - 1) (s .size - (1 + k)) (v .scope) (s .next) (s .comparisons)) true b) (statesOf (stateOf (s .own) R W Q B)) (finish (restOf (s .own) (s .place) R W Q B) p)
+        unfolding domain
+        copied-becomes c d =
+            let l = last-copied in
+            becomes-state refl
+            (pair-entered l (copied-fits .0) (copied-fits .1) q g u t (z .waits) (l .rest) (omega arith) (omega arith) (λ i. no-confusion (sym is-copied ∙ i))
+            (omega (arith, z .size-is, sizes-copied .0, raw-size (l .slot))) (ap (λ r. r .scope) q ∙ l .scope-below) (omega (arith, z .size-bound)) (omega (arith, ap (λ r. r .scope) q, l .scope-below, z .scope-is, z .scope-bound, sizes-copied .1)) (z .reached))
+            refl (fewer-is (s .own) R W (liftWaiting W) Q (liftWaiting (l .others)) (pair (l .last .term) taken) B taken rest is-abs refl)
+            (run-copied (s .own) (s .place) (s .from + 1 + n) R W p is-copied is-abs (l .is))
+
+    -- (v) and (xi)
+    module _ (y : s .top ≤ s .middle) (ne : s .bottom ≡ s .top → ⊥) where
+      no-copies : Q ≡ []
+      no-copies = queue-empty (z .copies) (omega (arith, queue-base (z .copies)))
+
+      same-tops : s .top ≡ s .middle
+      same-tops = omega (arith, queue-base (z .copies))
+
+      pub last-waiting : Last (x .term) (x .term) (m .list) (f .len) (length (x .term)) (s .bottom) 0 (s .middle) W
+      last-waiting = queue-last (z .waits) (λ i. ne (omega (arith, same-tops)))
+
+      pub one-waits : (s .bottom < s .top) × (1 ≤ s .top)
+      one-waits = (omega (arith, queue-base (z .waits), same-tops, ne), omega (arith, queue-base (z .waits), same-tops, ne))
+
+      sizes-waiting : (waitingSize (termsOf W) ≡ suc (size (last-waiting .last .term)) + waitingSize (termsOf (last-waiting .others))) × (waitingScope (termsOf W) ≡ max (scope (last-waiting .last .term)) (waitingScope (termsOf (last-waiting .others))))
+      unfolding waitingSize waitingScope termsOf
+      sizes-waiting = (ap (λ k. waitingSize (termsOf k)) (last-waiting .is), ap (λ k. waitingScope (termsOf k)) (last-waiting .is))
+
+      pub waiting-fits : (f .end + (suc (size (last-waiting .last .term)) + suc (size (two-abs .one))) ≤ longestState) × (f .len + scope (last-waiting .last .term) ≤ mostAbstractors)
+      waiting-fits = (omega (arith, o .fits, sizes, z .size-is, sizes-waiting .0), omega (arith, o .waits-fit, z .scope-is, sizes-waiting .1))
+
+      none-copied : (waitingSize (termsOf Q) ≡ 0) × (waitingScope (termsOf Q) ≡ 0)
+      unfolding waitingSize waitingScope termsOf
+      none-copied = (ap (λ k. waitingSize (termsOf k)) no-copies, ap (λ k. waitingScope (termsOf k)) no-copies)
+
+      module _ {v : Slot} (q : v ≡ slotOf (m .list) (s .top - 1)) {k : ℕ} (g : k ≡ size (last-waiting .slot .raw)) where
+        slot-is : v ≡ slotOf (m .list) (s .middle - 1)
+        slot-is = rw (← same-tops) q
+
+        pub waiting-size : 1 + k ≤ s .size
+        waiting-size = omega (arith, z .size-is, sizes-waiting .0, raw-size (last-waiting .slot))
+
+        pub waiting-writable : Writable (x .term) (m .work) (v .at + 1) (v .at + 1 + k) (v .shift) (v .cut) (f .len - v .depth) (f .end)
+        waiting-writable = applied-writable last-waiting (waiting-fits .0) (waiting-fits .1) slot-is g
+
+        module _ {w₁ : List ℕ} {a : ℕ} (u : Puts 0xfe (x .term) (m .work) w₁ (v .at + 1) (v .at + 1 + k) (v .shift) (v .cut) (f .len - v .depth) (f .end) a) where
+          pub waiting-asked : (s .cut < 65536) × (s .«in_term» ≡ false → s .from + 1 + n ≤ a) × Writable (cond (s .«in_term») (x .term) w₁) w₁ (s .from + 1) (s .from + 1 + n) (s .shift) (s .cut) 0 a
+          waiting-asked = domain-asked last-waiting (waiting-fits .0) (waiting-fits .1) slot-is g u
+
+          module _ {w₂ : List ℕ} {b : ℕ} (t : Puts 0xff (cond (s .«in_term») (x .term) w₁) w₁ w₂ (s .from + 1) (s .from + 1 + n) (s .shift) (s .cut) 0 a b) where
+            whole : WrittenTerm 0xff w₁ w₂ a b taken
+            whole = domain-whole last-waiting (waiting-fits .0) (waiting-fits .1) slot-is g u t
+
+            below : Agree (m .work) w₂ 0 (f .end)
+            below = pair-below last-waiting (waiting-fits .0) (waiting-fits .1) slot-is g u t
+
+            pub waiting-keeps : (length w₂ ≡ longestState) × Agree (m .work) w₂ 0 (f .end) × (f .end ≤ b) × (a + 1 < 65536)
+            waiting-keeps = (whole .work, below, pair-end last-waiting (waiting-fits .0) (waiting-fits .1) slot-is g u t, pair-bounds last-waiting (waiting-fits .0) (waiting-fits .1) slot-is g u t .0)
+
+            now-stored : Stored w₂ f R
+            now-stored = stored-agree (z .stored) below (whole .work)
+
+            applied-here : Stands w₂ (suc (f .end)) a (last-waiting .last .term)
+            applied-here = applied-now last-waiting (waiting-fits .0) (waiting-fits .1) slot-is g u t
+
+            pub comparing : Comparing (x .file) w₂ (s .next) f a b
+            comparing = let k = now-part (last-waiting .slot) (waiting-fits .1) in record {
+              frame = R;
+              stored = now-stored;
+              closed-frame = sound-closed (z .sound);
+              applied = last-waiting .last .term;
+              domain = taken;
+              applied-closed = k .closed;
+              applied-fits = record { short = k .short; shallow = k .shallow };
+              domain-closed = taken-part .closed;
+              applied-stands = applied-here;
+              domain-stands = whole .stands;
+              groups = z .reached .groups;
+              stand = z .reached .stand;
+            }
+
+            module _ {c : Compared} {left right : List ℕ} (r : Compares (x .file) w₂ (s .next) f a b c left right) where
+              abbrev theRun : Run
+              theRun = finish (same-at (last-waiting .last .place) R (last-waiting .last .term) taken ∷ []) p
+
+              compared : CompareSays (x .file) (s .next) c left right (last-waiting .last .place) p theRun
+              compared = r .all R (last-waiting .last .term) taken (z .reached .groups) now-stored applied-here (whole .stands) (z .reached .stand) (last-waiting .last .place) p (z .reached .left)
+
+              place-of-v : v .place ≡ last-waiting .last .place
+              place-of-v = ap (λ u. u .place) slot-is ∙ sym (last-waiting .slot .is-place)
+
+              run-is : finish (restOf (s .own) (s .place) R W Q B) p ≡ andThen theRun (finish (agendaOf false (s .own) (cond (s .own) (s .from + 1 + n) (s .place)) (R ▹ pair (last-waiting .last .term) taken) (liftWaiting (last-waiting .others)) [] rest))
+              run-is = run-waiting (s .own) (s .place) R p is-abs (last-waiting .is) no-copies (place-is (s .own) refl)
+
+              becomes-at : {A : Arrays} {d : Turned} {i : ℕ} {v w : Run} → v ≡ w → Becomes x A f s left right d i w → Becomes x A f s left right d i v
+              becomes-at e h = rw e h
+
+              pub waiting-stops : (c .number ≡ 0 → ⊥) → Becomes x (entryArrays m w₂ (f .len) (a + 1) (s .origin + 1)) f s left right (answering (c .number) (v .place) (c .first) (c .second) (c .third) s)
+                  (statesOf (stateOf (s .own) R W Q B)) (finish (restOf (s .own) (s .place) R W Q B) p)
+              unfolding andThen
+              waiting-stops h = becomes-at run-is (go compared)
+                where
+                  go : {r : Run} → CompareSays (x .file) (s .next) c left right (last-waiting .last .place) p r
+                      → Becomes x (entryArrays m w₂ (f .len) (a + 1) (s .origin + 1)) f s left right (answering (c .number) (v .place) (c .first) (c .second) (c .third) s)
+                      (statesOf (stateOf (s .own) R W Q B)) (andThen r (finish (agendaOf false (s .own) (cond (s .own) (s .from + 1 + n) (s .place)) (R ▹ pair (last-waiting .last .term) taken) (liftWaiting (last-waiting .others)) [] rest)))
+                  go (compare-passed gs i j k l m) = absurd (h i)
+                  go (compare-stopped i j k) = becomes-answer refl (says-stopped (halts-compared i refl (place-of-v ∙ sym j) refl refl refl) (sym (z .reached .counted) ∙ sym k))
+
+              pub waiting-becomes : c .number ≡ 0 → Becomes x (entryArrays m w₂ (f .len) (a + 1) (s .origin + 1)) f s left right
+                  (going 1 (pastOf s n (s .cut + 1) (s .top - 1) (s .top - 1) (s .size - (1 + k)) (v .scope) (c .next) (s .comparisons + 1)) true b)
+                  (statesOf (stateOf (s .own) R W Q B)) (finish (restOf (s .own) (s .place) R W Q B) p)
+              unfolding andThen domain liftWaiting termsOf waitingSize waitingScope
+              waiting-becomes h = becomes-at run-is (go compared)
+                where
+                  go : {r : Run} → CompareSays (x .file) (s .next) c left right (last-waiting .last .place) p r
+                      → Becomes x (entryArrays m w₂ (f .len) (a + 1) (s .origin + 1)) f s left right
+                      (going 1 (pastOf s n (s .cut + 1) (s .top - 1) (s .top - 1) (s .size - (1 + k)) (v .scope) (c .next) (s .comparisons + 1)) true b)
+                      (statesOf (stateOf (s .own) R W Q B)) (andThen r (finish (agendaOf false (s .own) (cond (s .own) (s .from + 1 + n) (s .place)) (R ▹ pair (last-waiting .last .term) taken) (liftWaiting (last-waiting .others)) [] rest)))
+                  go (compare-stopped i j k) = absurd (ground-number i .1 h)
+                  go (compare-passed {q = d} gs i j l e c) =
+                      let w = last-waiting in
+                      becomes-state {W = liftWaiting (w .others)} {Q = []} {p = d} refl
+                      (pair-entered w (waiting-fits .0) (waiting-fits .1) slot-is g u t {W′ = w .others} {Q′ = []} (queue-to (ap (λ i. i - 1) (sym same-tops)) (w .rest)) (no-queue refl refl) (omega (arith, same-tops)) (omega arith) (λ i. (refl, refl))
+                      (omega (arith, z .size-is, sizes-waiting .0, raw-size (w .slot), none-copied .0)) (ap (λ r. r .scope) slot-is ∙ w .scope-below ∙ omega arith) (omega (arith, z .size-bound))
+                      (omega (arith, ap (λ r. r .scope) slot-is, w .scope-below, z .scope-is, z .scope-bound, sizes-waiting .1))
+                      (record { groups = gs; stand = l; left = e; counted = omega (arith, c, z .reached .counted); few = omega (arith, j, z .reached .few); file-bound = z .reached .file-bound }))
+                      refl (fewer-is (s .own) R W (liftWaiting (w .others)) Q [] (pair (w .last .term) taken) B taken rest is-abs refl) refl

@@ -1,0 +1,266 @@
+-- An applicator: its K waits, (iii) and (ix).
+-- Assumes nothing.
+use Prim.Native.Nat.{ℕ, zero, suc, _+_, _-_, _*_, _≤_, _<_, max}
+use mathlib.Core.Path.{_≡_, refl, ap, sym, _∙_}
+use mathlib.Core.Bool.{Bool, true, false, cond}
+use mathlib.Core.List.{List, [], _∷_}
+use native.Mathlib.Omega.{arith}
+use native.Mathlib.Numerals.{add-one}
+use lib.ListN.{length, getD}
+use Rattle.calculus.specs.Terms.{Term, var, app, size, lift, Closed, closed-app}
+use Rattle.calculus.specs.Frames.{Frame}
+use Rattle.calculus.specs.Walks.{statesOf}
+use Rattle.calculus.proofs.Lift.{lift-zero, size-lift}
+use Rattle.code.specs.Limits.{longestTerm, longestState, mostAbstractors}
+use Rattle.code.specs.Claims.{Stands}
+use Rattle.code.specs.Scope.{scope}
+use Rattle.code.proofs.Parts.{stands-start, stands-end}
+use Rattle.code.proofs.Scope.{scope-lift}
+use Rattle.frames.specs.Stored.{Agree}
+use Rattle.frames.specs.declared.FrameRecord.{FrameRecord}
+use Rattle.frames.proofs.Entries.{agree-refl}
+use Rattle.texts.specs.Texts.{Origin}
+use Rattle.texts.proofs.Origins.{origin-app, origin-inside}
+use Rattle.verdict.specs.Bounds.{waitingSize, waitingScope}
+use Rattle.verdict.specs.Verdict.{Progress, finish}
+use Rattle.waiting.specs.Waiting.{Waiting, termsOf, slotOf, Waits, Queue, queue-none, queue-one, Noted}
+use Rattle.waiting.proofs.Texts.{positive, Two, text-app}
+use Rattle.waiting.proofs.Queues.{queue-length, queue-keep, queue-base}
+use Rattle.waiting.specs.declared.Slot.{Slot}
+use Rattle.walk.specs.State.{Text, Arrays, Notes, stateOf, restOf, agendaOf, OwnText, StateAt}
+use Rattle.walk.specs.Contracts.{going, pastOf, longestList, slotFor, WaitReady, WaitTurn, wait-full, wait-goes, Says, says-full, Becomes, becomes-answer, becomes-state, Keeps, Onward, Wagons}
+use Rattle.walk.specs.declared.WalkState.{WalkState}
+use Rattle.walk.specs.declared.Turned.{Turned}
+use Rattle.walk.proofs.Rules.{rest-app-own, rest-app-copied}
+use Rattle.walk.proofs.Measures.{fewer-app}
+use Rattle.walk.proofs.States.{no-confusion, notes-keep, Room, body-size, body-scope, origin-bound}
+
+-- the arrays with another list
+abbrev pub listed : Arrays → List ℕ → Arrays
+listed m q = record { work = m .work; list = q; domains = m .domains; origins = m .origins }
+
+fewer-is : (b : Bool) (R : Frame) (W W′ Q Q′ : List Waiting) (B K X : Term) → B ≡ app K X → suc (statesOf (stateOf b R W′ Q′ X)) ≤ statesOf (stateOf b R W Q B)
+fewer-is b R W W′ Q Q′ B K X e = rw e (fewer-app b R W W′ Q Q′ K X)
+
+pub no-queue : {t s q : List ℕ} {d limit base before top : ℕ} {Q : List Waiting} → Q ≡ [] → top ≡ base → Queue t s q d limit base before top Q
+no-queue e h = rw e (queue-none h)
+
+module _ {x : Text} {m : Arrays} {f : FrameRecord} {s : WalkState} {R : Frame} {W Q : List Waiting} {B : Term} {p : Progress} (z : StateAt x m f s R W Q B p) (h : getD (cond (s .«in_term») (x .term) (m .work)) (s .from) 0 ≡ 0xfe) where
+  pub two-app : Two (cond (s .«in_term») (x .term) (m .work)) (s .from) (z .end) (z .text) app
+  two-app = text-app (z .stands) h
+
+  pub applied : Term
+  applied = lift (s .shift) (s .cut) (two-app .one)
+
+  pub rest : Term
+  rest = lift (s .shift) (s .cut) (two-app .two)
+
+  pub is-app : B ≡ app applied rest
+  unfolding lift applied rest
+  is-app = z .seen ∙ ap (lift (s .shift) (s .cut)) (two-app .is)
+
+  pub origins-app : Origin (x .term) (s .origin + 1) (two-app .one) × Origin (x .term) (s .origin + 1 + size (two-app .one)) (two-app .two)
+  origins-app = origin-app (rw (two-app .is) at (z .origin))
+
+  sizes : size B ≡ suc (size (two-app .one) + size (two-app .two))
+  unfolding size
+  sizes = body-size z ∙ ap size (two-app .is)
+
+  scopes : scope B ≡ max (scope (two-app .one)) (scope (two-app .two))
+  unfolding scope
+  scopes = body-scope z ∙ ap scope (two-app .is)
+
+  parts-closed : Closed (f .len) applied × Closed (f .len) rest
+  parts-closed = go (rw is-app at (z .closed))
+    where
+      go : {K X : Term} → Closed (f .len) (app K X) → Closed (f .len) K × Closed (f .len) X
+      go (closed-app a b) = (a, b)
+
+  -- copied text does not stand in the term
+  not-met : {A : Type 0} → s .own ≡ false → s .«in_term» ≡ true → A
+  unfolding size
+  not-met a b = let k = z .met a b in absurd (omega (arith, ap size (k .1), ap size (two-app .is), positive (two-app .one)))
+
+  pub wait-ready : (o : Room f s B) {n : ℕ} → n ≡ size (two-app .one) → WaitReady (f .len) s n
+  wait-ready o e = record {
+    origin-small = omega (arith, origin-bound z);
+    from-small = from-small;
+    len-small = omega (arith, z .stored .few);
+    shift-small = omega (arith, z .shift-bound);
+    cut-small = omega (arith, z .cut-bound, z .stored .few);
+    scope-small = omega (arith, z .scope-bound);
+    top-small = omega (arith, queue-length (z .copies), z .few-waiting, z .place-bound, z .term-short, z .size-is, z .size-bound);
+    size-small = omega (arith, z .size-bound);
+    n-small = omega (arith, sizes, o .fits);
+  }
+    where
+      from-small : s .from < 65536
+      from-small = by-source (s .«in_term») refl
+        where
+          by-source : (b : Bool) → s .«in_term» ≡ b → s .from < 65536
+          by-source true e = omega (arith, stands-start (rw e at (z .stands)), stands-end (rw e at (z .stands)), z .term-short)
+          by-source false e = omega (arith, stands-start (rw e at (z .stands)), stands-end (rw e at (z .stands)), z .stored .work)
+
+  module _ (o : Room f s B) {n y : ℕ} (e : n ≡ size (two-app .one)) (c : y ≡ scope (two-app .one)) {q : List ℕ} (d : Noted (m .list) q (s .top) (slotFor (f .len) s)) (l : 6 * s .top + 6 ≤ length (m .list)) where
+    next-text : Stands (cond (s .«in_term») (x .term) (m .work)) (s .from + 1 + n) (z .end) (two-app .two)
+    next-text = let i : s .from + 1 + n ≡ two-app .mid = omega (arith, two-app .first .place) in rw i (two-app .second)
+
+    -- K as it waits, in a string that it stands in
+    waits : (place : ℕ) {t : List ℕ} {limit : ℕ} → cond (s .«in_term») (x .term) (m .work) ≡ t → two-app .mid ≤ limit → place ≡ s .origin
+        → Waits (x .term) t (f .len) limit (slotOf q (s .top)) (record { place = place; term = applied })
+    unfolding applied
+    waits place g i j = rw (d .slot) (record {
+      raw = two-app .one;
+      end = two-app .mid;
+      stands = rw (← g, ← add-one (s .from)) (two-app .first);
+      inside = i;
+      origin = origins-app .0;
+      shift-bound = z .shift-bound;
+      cut-bound = omega (arith, z .cut-bound, z .stored .few);
+      part = record {
+        closed = parts-closed .0;
+        shallow = omega (arith, o .body-fits, scopes, scope-lift (s .shift) (s .cut) (two-app .one));
+        short = omega (arith, sizes, origin-bound z, size-lift (s .shift) (s .cut) (two-app .one));
+      };
+      deep = omega arith;
+      is-place = j;
+      seen = sym (ap (λ i. lift i 0 (lift (s .shift) (s .cut) (two-app .one))) (omega arith) ∙ lift-zero 0 (lift (s .shift) (s .cut) (two-app .one)));
+    })
+
+    slot-scope : slotOf q (s .top) .scope ≡ s .scope
+    slot-scope = ap (λ u. u .scope) (d .slot)
+
+    here : Waiting
+    here = record { place = s .origin; term = applied }
+
+    size-waits : waitingSize (applied ∷ []) ≡ 1 + n
+    unfolding waitingSize applied
+    size-waits = omega (arith, size-lift (s .shift) (s .cut) (two-app .one))
+
+    scope-waits : scope applied ≡ y
+    unfolding applied
+    scope-waits = scope-lift (s .shift) (s .cut) (two-app .one) ∙ sym c
+
+    -- what waits now
+    abbrev nowW : Bool → List Waiting
+    nowW b = cond b (here ∷ W) W
+
+    abbrev nowQ : Bool → List Waiting
+    nowQ b = cond b Q (here ∷ Q)
+
+    queue-w : (b : Bool) → s .own ≡ b → Queue (x .term) (x .term) q (f .len) (length (x .term)) (s .bottom) 0 (cond b (s .top + 1) (s .middle)) (nowW b)
+    unfolding here waitingScope termsOf
+    queue-w true i =
+        let t = z .own-text i in
+        let g : waitingScope (termsOf Q) ≡ 0 = ap (λ k. waitingScope (termsOf k)) (t .no-copies) in
+        let u = ap (λ k. cond k (x .term) (m .work)) (t .in-term) in
+        let v : Stands (x .term) (two-app .mid) (z .end) (two-app .two) = rw u at (two-app .second) in
+        queue-one {W = W} (add-one (s .top)) (omega (arith, queue-base (z .waits), t .tops)) (waits (s .origin) u (omega (arith, stands-start v, stands-end v)) refl) (slot-scope ∙ omega (arith, z .scope-is))
+        (rw (← t .tops) (queue-keep (d .below) (omega (arith, t .tops)) (z .waits)))
+    queue-w false i = queue-keep (d .below) (queue-base (z .copies)) (z .waits)
+
+    queue-q : (b : Bool) → s .own ≡ b → Queue (x .term) (m .work) q (f .len) (f .end) (cond b (s .top + 1) (s .middle)) (waitingScope (termsOf (nowW b))) (s .top + 1) (nowQ b)
+    unfolding here termsOf
+    queue-q true i = no-queue (z .own-text i .no-copies) refl
+    queue-q false i = by-source (s .«in_term») refl
+      where
+        by-source : (k : Bool) → s .«in_term» ≡ k → Queue (x .term) (m .work) q (f .len) (f .end) (s .middle) (waitingScope (termsOf W)) (s .top + 1) (here ∷ Q)
+        by-source true j = not-met i j
+        by-source false j =
+            let u = ap (λ k. cond k (x .term) (m .work)) j in
+            queue-one {W = Q} (add-one (s .top)) (queue-base (z .copies)) (waits (s .origin) u (omega (arith, stands-start (two-app .second), z .inside j)) refl) (slot-scope ∙ z .scope-is)
+            (queue-keep (d .below) (omega arith) (z .copies))
+
+    size-now : (b : Bool) → s .size + (1 + n) ≡ waitingSize (termsOf (nowW b)) + waitingSize (termsOf (nowQ b))
+    unfolding here waitingSize termsOf
+    size-now true = omega (arith, z .size-is, size-waits)
+    size-now false = omega (arith, z .size-is, size-waits)
+
+    scope-now : (b : Bool) → max (s .scope) y ≡ max (waitingScope (termsOf (nowW b))) (waitingScope (termsOf (nowQ b)))
+    unfolding here waitingScope termsOf
+    scope-now true = omega (arith, z .scope-is, scope-waits)
+    scope-now false = omega (arith, z .scope-is, scope-waits)
+
+    few-now : (b : Bool) → s .own ≡ b → cond b (s .top + 1) (s .middle) + cond b (s .top + 1) (s .middle) ≤ cond b (s .from + 1 + n) (s .place)
+    few-now true i = let t = z .own-text i in omega (arith, z .few-waiting, t .tops, t .at-place, positive (two-app .one))
+    few-now false i = z .few-waiting
+
+    place-now : (b : Bool) → s .own ≡ b → cond b (s .from + 1 + n) (s .place) < length (x .term)
+    place-now true i =
+        let u = ap (λ k. cond k (x .term) (m .work)) (z .own-text i .in-term) in
+        let v : Stands (x .term) (s .from + 1 + n) (z .end) (two-app .two) = rw u at next-text in
+        omega (arith, stands-start v, stands-end v)
+    place-now false i = z .place-bound
+
+    abbrev pub nextApp : WalkState
+    nextApp = pastOf s n (s .cut) (cond (s .own) (s .top + 1) (s .middle)) (s .top + 1) (s .size + (1 + n)) (max (s .scope) y) (s .next) (s .comparisons)
+
+    own-now : (b : Bool) → s .own ≡ b → s .own ≡ true → OwnText nextApp (nowQ b)
+    own-now true i j =
+        let t = z .own-text i in
+        let u : cond (s .own) (s .from + 1 + n) (s .place) ≡ s .from + 1 + n = ap (λ k. cond k (s .from + 1 + n) (s .place)) i in
+        let v : cond (s .own) (s .top + 1) (s .middle) ≡ s .top + 1 = ap (λ k. cond k (s .top + 1) (s .middle)) i in
+        record { in-term = t .in-term; at-place = sym u; itself = omega (arith, u, t .at-place, t .itself); unlifted = t .unlifted; no-copies = t .no-copies; tops = v }
+    own-now false i j = no-confusion (sym i ∙ j)
+
+    state-now : (b : Bool) → s .own ≡ b → StateAt x (listed m q) f nextApp R (nowW b) (nowQ b) rest p
+    unfolding rest
+    state-now b i =
+        let g : cond (s .own) (s .top + 1) (s .middle) ≡ cond b (s .top + 1) (s .middle) = ap (λ k. cond k (s .top + 1) (s .middle)) i in
+        let k : cond (s .own) (s .from + 1 + n) (s .place) ≡ cond b (s .from + 1 + n) (s .place) = ap (λ k. cond k (s .from + 1 + n) (s .place)) i in
+        record {
+          term-short = z .term-short;
+          stored = z .stored;
+          sound = z .sound;
+          notes = notes-keep agree-refl (omega (arith, z .stored .work, z .stored .inside)) (omega arith) agree-refl agree-refl (z .notes);
+          domains-long = z .domains-long;
+          origins-long = z .origins-long;
+          waits = rw g (queue-w b i);
+          copies = rw g (queue-q b i);
+          listed = omega (arith, d .same-length, l);
+          few-waiting = omega (arith, g, k, few-now b i);
+          place-bound = omega (arith, k, place-now b i);
+          size-is = size-now b;
+          scope-is = scope-now b;
+          size-bound = omega (arith, o .fits, sizes);
+          scope-bound = omega (arith, z .scope-bound, o .body-fits, scopes);
+          text = two-app .two;
+          end = z .end;
+          stands = next-text;
+          inside = z .inside;
+          origin = rw e (origins-app .1);
+          seen = refl;
+          shift-bound = z .shift-bound;
+          cut-bound = z .cut-bound;
+          closed = parts-closed .1;
+          own-text = own-now b i;
+          met = λ j k. not-met j k;
+          inner = λ j. no-confusion j;
+          reached = z .reached;
+        }
+
+    applied-size : size applied ≡ n
+    unfolding applied
+    applied-size = size-lift (s .shift) (s .cut) (two-app .one) ∙ sym e
+
+    run-now : (b : Bool) → s .own ≡ b → finish (restOf b (s .place) R W Q B) p ≡ finish (agendaOf false b (cond b (s .from + 1 + n) (s .place)) R (nowW b) (nowQ b) rest) p
+    unfolding here
+    run-now true i =
+        let t = z .own-text i in
+        let j : suc (s .place) + size applied ≡ s .from + 1 + n = omega (arith, t .at-place, applied-size) in
+        own-run (is-app) (t .no-copies) (t .itself) j
+      where
+        own-run : {B : Term} {Q : List Waiting} {origin next : ℕ} → B ≡ app applied rest → Q ≡ [] → origin ≡ s .place → suc (s .place) + size applied ≡ next
+            → finish (restOf true (s .place) R W Q B) p ≡ finish (agendaOf false true next R (record { place = origin; term = applied } ∷ W) Q rest) p
+        own-run a c g h = rw (a, c, g, ← h) (rest-app-own (s .place) R W applied rest p)
+    run-now false i = copied-run is-app
+      where
+        copied-run : {B : Term} → B ≡ app applied rest → finish (restOf false (s .place) R W Q B) p ≡ finish (agendaOf false false (s .place) R W (record { place = s .origin; term = applied } ∷ Q) rest) p
+        copied-run a = rw a (rest-app-copied (s .place) (s .origin) R W Q applied rest p)
+
+    pub app-becomes : (a b : List ℕ) → Becomes x (listed m q) f s a b (going 1 nextApp false 0) (statesOf (stateOf (s .own) R W Q B)) (finish (restOf (s .own) (s .place) R W Q B) p)
+    app-becomes a b = becomes-state refl (state-now (s .own) refl) refl (fewer-is (s .own) R W (nowW (s .own)) Q (nowQ (s .own)) B applied rest is-app) (run-now (s .own) refl)
+
+  -- the list has room for all that can wait
+  pub full-short : (o : Room f s B) → length (m .list) < 6 * s .top + 6 → length (m .list) < longestList
+  full-short o l = omega (arith, queue-length (z .copies), z .few-waiting, z .place-bound, z .term-short, z .size-is, o .fits, sizes, positive (two-app .one), positive (two-app .two))
