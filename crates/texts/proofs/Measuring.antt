@@ -5,11 +5,12 @@ use mathlib.Core.Path.{_≡_, refl, ap, ap₂, sym, _∙_}
 use mathlib.Core.Bool.{Bool}
 use mathlib.Core.List.{List, [], _∷_, _++_, map, map-append}
 use native.Mathlib.Omega.{arith}
+use native.Mathlib.Nat.{zero-add}
 use native.Mathlib.Numerals.{add-one}
 use lib.ListN.{length, getD, set, drop, length-set, List·getD-map, List·getD-append}
 use lib.Seq.{sets, sets-eq, getD-set-same, getD-set-other}
 use borrow.Author.Tests.{le-leb, lt-leb}
-use Rattle.calculus.specs.Terms.{Term, tau, var, app, abs, size}
+use Rattle.calculus.specs.Terms.{Term, size}
 use Rattle.calculus.proofs.Lift.{Cmp, lo, hi, cmp, lift-zero}
 use Rattle.code.specs.Limits.{longestTerm, mostAbstractors}
 use Rattle.code.specs.Code.{encode, Coded, coded-tau, coded-var, coded-app, coded-abs}
@@ -18,13 +19,14 @@ use Rattle.code.specs.Scope.{scope}
 use Rattle.code.proofs.RoundTrip.{length-encode}
 use Rattle.code.proofs.Parts.{Head, head-tau, head-var, head-app, head-abs, head, stands-start, stands-end}
 use Rattle.indices.proofs.Walk.{scope-size}
-use Rattle.letters.specs.Letters.{letters, symbolOf}
+use Rattle.letters.specs.Letters.{letters, symbolOf, depthOf}
 use Rattle.letters.specs.Contracts.{Readable, ReadAs, read-all, Reads}
 use Rattle.letters.specs.Contracts as reading
 use Rattle.letters.proofs.Letters.{symbol-letter, length-letters}
-use Rattle.texts.specs.Texts.{Sized, WholeTerm}
-use Rattle.texts.specs.Contracts.{symbolFor, Lettered, SizedFrom, Measurable, ExtentAt}
+use Rattle.texts.specs.Texts.{Sized, WholeTerm, depthsOf, Depths}
+use Rattle.texts.specs.Contracts.{symbolFor, Lettered, SizedFrom, Measurable, ExtentAt, Notable, DepthsNoted}
 use Rattle.texts.specs.declared.Extent.{Extent}
+use Rattle.texts.proofs.Depths.{letters-depths, depth-below, Part, every, depths-all}
 
 -- ---- The symbol of a byte.
 terminal-symbol : {b : ℕ} → b < 0xfe → symbolFor b ≡ b
@@ -75,12 +77,45 @@ module _ {t : List ℕ} (g : WholeTerm t) (out : List ℕ) (n : length out ≡ l
         ap symbolOf letter-there ∙ sym (List·getD-map symbolOf (letters 0 0 (g .term)) i 0) ∙ ap (λ x. getD x i 0) (letters-symbols 0 0 (g .stands .coded))
         ∙ List·getD-map symbolFor (encode (g .term)) i 0 ∙ ap symbolFor (sym byte-there)
 
-  pub whole-lettered : {out′ : List ℕ} {r : Bool} → Reads t 0 (length t) 0 0 0 mostAbstractors out out′ 0 r → Lettered t out′
-  whole-lettered {out′} {r} k = go (k .all (g .term) (g .stands))
+  read-whole : {out′ : List ℕ} {r : Bool} → Reads t 0 (length t) 0 0 0 mostAbstractors out out′ 0 r → out′ ≡ sets out 0 (letters 0 0 (g .term))
+  read-whole {out′} {r} k = go (k .all (g .term) (g .stands))
     where
-      go : {r : Bool} → ReadAs 0 0 0 mostAbstractors out out′ 0 (g .term) r → Lettered t out′
-      go (read-all e s) = record { symbols-are = λ i l. symbol-there (e ∙ ap (λ u. sets out 0 (letters 0 0 u)) (lift-zero 0 (g .term))) i l }
+      go : {r : Bool} → ReadAs 0 0 0 mostAbstractors out out′ 0 (g .term) r → out′ ≡ sets out 0 (letters 0 0 (g .term))
+      go (read-all e s) = e ∙ ap (λ u. sets out 0 (letters 0 0 u)) (lift-zero 0 (g .term))
       go (reading.too-deep s) = absurd (omega (arith, g .shallow))
+
+  pub whole-lettered : {out′ : List ℕ} {r : Bool} → Reads t 0 (length t) 0 0 0 mostAbstractors out out′ 0 r → Lettered t out′
+  whole-lettered k = record { symbols-are = λ i l. symbol-there (read-whole k) i l }
+
+-- ---- The letters of a term have its depths.
+module _ {t : List ℕ} (g : WholeTerm t) (out : List ℕ) (n : length out ≡ longestTerm) {out′ : List ℕ} {r : Bool} (k : Reads t 0 (length t) 0 0 0 mostAbstractors out out′ 0 r) where
+  depth-there : (i : ℕ) → i < length t → depthOf (getD out′ i 0) ≡ getD (depthsOf 0 (g .term)) i 0
+  depth-there i l = ap depthOf (letter-there g out n (read-whole g out n k) i l) ∙ sym (List·getD-map depthOf (letters 0 0 (g .term)) i 0)
+      ∙ ap (λ x. getD x i 0) (letters-depths 0 0 (g .stands .coded) (omega (arith, g .shallow)))
+
+  pub notable : {depths : List ℕ} → length t ≤ length depths → Notable out′ depths (length t)
+  notable l = record {
+    array = k .same-length ∙ n;
+    short = g .short;
+    small = λ i h. omega (arith, depth-there i h, depth-below 0 (g .term) 253 (omega (arith, g .shallow)) i);
+    long = l;
+  }
+
+  pub depths-known : {depths depths′ : List ℕ} → DepthsNoted out′ depths depths′ (length t) → Depths t depths′
+  depths-known {depths′ = depths′} d = depths-all (g .stands) (record { each = λ i l. let m : i < length t = omega (arith, same-size g) in ap (λ x. getD depths′ x 0) (zero-add i) ∙ d .noted i m ∙ depth-there i m })
+
+-- The depths noted so far.
+pub noted-none : (letters depths : List ℕ) → DepthsNoted letters depths depths 0
+noted-none letters depths = record { noted = λ i l. absurd (omega arith); same-length = refl }
+
+pub noted-more : {letters depths₀ depths : List ℕ} {i x : ℕ} → DepthsNoted letters depths₀ depths i → i < length depths₀ → x ≡ depthOf (getD letters i 0) → DepthsNoted letters depths₀ (set depths i x) (i + 1)
+noted-more {letters} {depths₀} {depths} {i} {x} d l e = record {
+  noted = λ j h. elim (cmp i j) [
+    | lo a ↦ let q : j ≡ i = omega arith in rw q (getD-set-same depths i x 0 (omega (arith, d .same-length)) ∙ e)
+    | hi a ↦ getD-set-other depths i j x 0 (λ z. omega arith) ∙ d .noted j a
+  ];
+  same-length = length-set depths i x ∙ d .same-length;
+}
 
 -- ---- What a symbol says of the byte.
 module _ {t letters : List ℕ} {i e s : ℕ} {X : Term} (k : Lettered t letters) (h : Stands t i e X) (q : s ≡ symbolOf (getD letters i 0)) where
@@ -92,45 +127,6 @@ module _ {t letters : List ℕ} {i e s : ℕ} {X : Term} (k : Lettered t letters
 
   high-byte : 1022 ≤ s → getD t i 0 ≡ s - 768
   high-byte l = elim (cmp 0xfe (getD t i 0)) [ lo a ↦ omega (arith, symbol-is, operator-symbol a) | hi a ↦ absurd (omega (arith, symbol-is, terminal-symbol a)) ]
-
--- ---- A term starts at every byte of a term.
-record Part (t : List ℕ) (i : ℕ) : Type 0 where
-  end : ℕ
-  term : Term
-  stands : Stands t i end term
-
-record Pair (t : List ℕ) (p e : ℕ) (K B : Term) : Type 0 where
-  mid : ℕ
-  first : Stands t (suc p) mid K
-  second : Stands t mid e B
-
-app-pair : {t : List ℕ} {p e : ℕ} {K B : Term} → Stands t p e (app K B) → Pair t p e K B
-app-pair {t} {p} {e} {K} {B} h = go (head h)
-  where
-    go : Head t p e (app K B) → Pair t p e K B
-    go (head-app {m} x k l) = record { mid = m; first = k; second = l }
-
-abs-pair : {t : List ℕ} {p e : ℕ} {K B : Term} → Stands t p e (abs K B) → Pair t p e K B
-abs-pair {t} {p} {e} {K} {B} h = go (head h)
-  where
-    go : Head t p e (abs K B) → Pair t p e K B
-    go (head-abs {m} x k l) = record { mid = m; first = k; second = l }
-
-this : {t : List ℕ} (T : Term) {p e : ℕ} → Stands t p e T → (i : ℕ) → i ≡ p → Part t i
-this T {p} {e} h i q = rw q (record { end = e; term = T; stands = h })
-
-every : {t : List ℕ} (T : Term) {p e : ℕ} → Stands t p e T → (i : ℕ) → p ≤ i → i < e → Part t i
-unfolding size
-every tau h i a b = this tau h i (omega (arith, h .place))
-every (var k) h i a b = this (var k) h i (omega (arith, h .place))
-every (app K B) {p} {e} h i a b = let d = app-pair h in elim (cmp i p) [
-  | lo c ↦ this (app K B) h i (omega arith)
-  | hi c ↦ elim (cmp (d .mid) i) [ lo u ↦ every B (d .second) i u b | hi u ↦ every K (d .first) i (omega arith) u ]
-]
-every (abs K B) {p} {e} h i a b = let d = abs-pair h in elim (cmp i p) [
-  | lo c ↦ this (abs K B) h i (omega arith)
-  | hi c ↦ elim (cmp (d .mid) i) [ lo u ↦ every B (d .second) i u b | hi u ↦ every K (d .first) i (omega arith) u ]
-]
 
 -- ---- The size and the scope of one term.
 pub leaf-extent : {letters sizes scopes : List ℕ} {i s : ℕ} → s ≡ symbolOf (getD letters i 0) → s < 1022 → ExtentAt letters sizes scopes i (record { size = 1; scope = 0 })
@@ -276,8 +272,8 @@ module _ {t letters sizes₀ scopes₀ : List ℕ} where
     measured-all h = record { sizes-are = λ p e X k. s .known .sizes-are p e X (omega arith) k; scopes-are = λ p e X k. s .known .scopes-are p e X (omega arith) k }
 
     module _ (l : 0 < i) where
-      part : Part t (i - 1)
-      part = every (s .whole .term) (s .whole .stands) (i - 1) (omega arith) (omega (arith, s .within))
+      part : Part t (depthsOf 0 (s .whole .term)) (i - 1)
+      part = every (s .whole .term) (s .whole .stands) (record { each = λ j l. ap (λ x. getD (depthsOf 0 (s .whole .term)) x 0) (zero-add j) }) (i - 1) (omega arith) (omega (arith, s .within))
 
       later : SizedFrom t sizes scopes (i - 1 + 1)
       later = record { sizes-are = λ p e X h. s .known .sizes-are p e X (omega arith); scopes-are = λ p e X h. s .known .scopes-are p e X (omega arith) }

@@ -10,7 +10,7 @@ use Rattle.calculus.specs.Terms.{Term, size}
 use Rattle.code.specs.Limits.{longestTerm}
 use Rattle.code.specs.Claims.{Stands}
 use Rattle.code.specs.Scope.{scope}
-use Rattle.letters.specs.Letters.{symbolOf}
+use Rattle.letters.specs.Letters.{symbolOf, depthOf}
 use Rattle.texts.specs.declared.Extent.{Extent}
 
 -- The symbol of a byte in a letter.
@@ -42,3 +42,14 @@ pub record Measurable (letters sizes scopes : List ℕ) (i : ℕ) : Type 0 where
 pub record ExtentAt (letters sizes scopes : List ℕ) (i : ℕ) (r : Extent) : Type 0 where
   pub size-is : (t : List ℕ) (e : ℕ) (X : Term) → Lettered t letters → SizedFrom t sizes scopes (i + 1) → Stands t i e X → r .size ≡ size X
   pub scope-is : (t : List ℕ) (e : ℕ) (X : Term) → Lettered t letters → SizedFrom t sizes scopes (i + 1) → Stands t i e X → r .scope ≡ scope X
+
+-- The depths of the first n letters are bytes, and there is room for them.
+pub record Notable (letters depths : List ℕ) (n : ℕ) : Type 0 where
+  pub array : length letters ≡ longestTerm
+  pub short : n ≤ longestTerm
+  pub small : (i : ℕ) → i < n → depthOf (getD letters i 0) < 256
+  pub long : n ≤ length depths
+
+pub record DepthsNoted (letters depths depths′ : List ℕ) (n : ℕ) : Type 0 where
+  pub noted : (i : ℕ) → i < n → getD depths′ i 0 ≡ depthOf (getD letters i 0)
+  pub same-length : length depths′ ≡ length depths

@@ -1,26 +1,28 @@
 -- Bytes moved and written, and numbers noted.
 -- Assumes nothing.
-use Prim.Native.Nat.{ℕ, zero, suc, _+_, _-_, _*_, _≤_, _<_}
+use Prim.Native.Nat.{ℕ, _+_, _-_, _*_, _≤_, _<_}
 use mathlib.Core.Path.{_≡_, refl, ap, sym, _∙_}
 use mathlib.Core.Bool.{Bool, true, false, cond}
-use mathlib.Core.List.{List, [], _∷_, _++_}
+use mathlib.Core.List.{List, _++_}
 use native.Mathlib.Omega.{arith}
 use native.Mathlib.Numerals.{add-one}
 use lib.ListN.{length, getD, set, take, drop, length-set, length-take, length-drop, take-append-drop}
-use lib.Seq.{getD-set-same, getD-set-other, ext-getD, getD-take, getD-drop}
-use Rattle.calculus.specs.Terms.{Term, size, lift}
-use Rattle.calculus.proofs.Lift.{lo, hi, cmp, lift-zero}
-use Rattle.code.specs.Limits.{longestTerm, longestState}
-use Rattle.code.specs.Code.{Coded}
+use lib.Seq.{getD-set-same, getD-set-other, set-set, ext-getD, getD-take, getD-drop}
+use Rattle.calculus.specs.Terms.{Term, lift, liftIndex}
+use Rattle.calculus.proofs.Lift.{lo, hi, cmp}
+use Rattle.code.specs.Limits.{longestState}
 use Rattle.code.specs.Claims.{Stands}
 use Rattle.code.proofs.Parts.{stands-start, stands-end, stands-taken, stands-unique}
 use Rattle.frames.specs.Stored.{Agree}
-use Rattle.frames.proofs.Entries.{agree-refl, agree-part, agree-trans, agree-set, agree-take, stands-agree}
-use Rattle.indices.specs.Passes.{ShortTerm, Replaced, Liftable, LiftableAbove}
+use Rattle.frames.proofs.Entries.{agree-refl, agree-part, agree-trans, agree-set, agree-take}
+use Rattle.indices.specs.Passes.{Replaced}
 use Rattle.indices.proofs.Replace.{lifted-stands, before-same}
-use Rattle.waiting.specs.Waiting.{slotOf, Noted}
-use Rattle.waiting.specs.Writing.{Moved, WrittenTerm, Writable, Puts}
+use Rattle.waiting.specs.Waiting.{Noted}
+use Rattle.texts.proofs.Origins.{origin-lift, origin-inside}
+use Rattle.texts.proofs.Depths.{origin-depth}
+use Rattle.waiting.specs.Writing.{Moved, Raised, Copied, Placed, Writable, Puts}
 use Rattle.waiting.specs.declared.Slot.{Slot}
+use Rattle.waiting.proofs.Copies.{one-index, one-lifted}
 
 -- ---- Numbers noted.
 slot-eq : (a b : Slot) → a .place ≡ b .place → a .at ≡ b .at → a .depth ≡ b .depth → a .shift ≡ b .shift → a .cut ≡ b .cut → a .scope ≡ b .scope → a ≡ b
@@ -107,34 +109,33 @@ stands-moved {s} {w} {w′} {p} {e} {to} {K} m l h = record {
         (λ i f. let n : i < e - p = rw (cut w′ to high) at f in at w′ to i n ∙ m .same i n ∙ sym (at s p i n))
 
 -- A store above what is moved makes no difference.
-pub moved-mark : (w : List ℕ) (i v : ℕ) {w₁ : List ℕ} {p n to : ℕ} → p + n ≤ i → Moved (set w i v) (set w i v) w₁ p n to → Moved w (set w i v) w₁ p n to
-moved-mark w i v {p = p} h m = record { same-length = m .same-length; below = m .below; same = λ j g. m .same j g ∙ getD-set-other w i (p + j) v 0 (λ z. omega arith) }
+pub moved-mark : (b : Bool) (t w : List ℕ) (i v : ℕ) {w₁ : List ℕ} {p n to : ℕ} → (b ≡ false → p + n ≤ i) → Moved (cond b t (set w i v)) (set w i v) w₁ p n to → Moved (cond b t w) (set w i v) w₁ p n to
+moved-mark true t w i v h m = m
+moved-mark false t w i v {p = p} h m = let l = h refl in record { same-length = m .same-length; below = m .below; same = λ j g. m .same j g ∙ getD-set-other w i (p + j) v 0 (λ z. omega arith) }
 
 -- ---- A mark and a term written.
 module _ (mark : ℕ) {p e n c k to : ℕ} {s w : List ℕ} (x : Writable s w p e n c k to) where
-  pub whole : (e ≡ p + size (x .raw)) × (to + 1 + (e - p) ≤ longestState)
-  whole = (x .stands .place, omega (arith, x .stands .place, x .room))
+  pub whole : (p ≤ e) × (e ≤ length s) × (to + 1 + (e - p) ≤ longestState) × (p < e)
+  whole = (omega (arith, x .stands .place), stands-end (x .stands), omega (arith, x .stands .place, x .room), stands-start (x .stands))
 
   module _ {w₁ : List ℕ} (m : Moved s (set w to mark) w₁ p (e - p) (to + 1)) where
     copied : Stands w₁ (to + 1) (to + 1 + (e - p)) (x .raw)
-    copied = stands-moved m (omega (arith, whole .1, length-set w to mark, x .work)) (x .stands)
+    copied = stands-moved m (omega (arith, whole .2, length-set w to mark, x .work)) (x .stands)
 
     copied-length : length w₁ ≡ longestState
     copied-length = m .same-length ∙ length-set w to mark ∙ x .work
 
-    pub standing : ShortTerm w₁ (to + 1) (to + 1 + (e - p))
-    standing = record { term = x .raw; stands = copied; short = omega (arith, x .stands .place, x .short) }
-
-    pub above-asked : LiftableAbove w₁ (to + 1) (to + 1 + (e - p)) n c
-    unfolding standing
-    above-asked = record { standing = standing; coded = x .first; shallow = x .cut }
+    pub first-asked : {t depths : List ℕ} {o : ℕ} → Placed t depths s p e o → Copied w₁ depths (to + 1) (to + 1 + (e - p)) o n c
+    first-asked g = let y = g .origin (x .raw) (x .stands) in
+        record { work = copied-length; term = x .raw; stands = copied; coded = x .first; inside = omega (arith, origin-inside y, g .long); deep = origin-depth (g .deep) y }
 
     module _ {w₂ : List ℕ} (r : Replaced (lift n c) w₁ w₂ (to + 1) (to + 1 + (e - p))) where
       once : Stands w₂ (to + 1) (to + 1 + (e - p)) (lift n c (x .raw))
       once = lifted-stands n c r copied (x .first)
 
-      pub lift-asked : Liftable w₂ (to + 1) (to + 1 + (e - p)) k
-      lift-asked = record { standing = record { term = lift n c (x .raw); stands = once; short = omega (arith, x .stands .place, x .short) }; coded = x .second }
+      pub second-asked : {t depths : List ℕ} {o : ℕ} → Placed t depths s p e o → Copied w₂ depths (to + 1) (to + 1 + (e - p)) o k 0
+      second-asked g = let y = origin-lift n c (g .origin (x .raw) (x .stands)) in
+          record { work = r .same-length ∙ copied-length; term = lift n c (x .raw); stands = once; coded = x .second; inside = omega (arith, origin-inside y, g .long); deep = origin-depth (g .deep) y }
 
       module _ {w₃ : List ℕ} (q : Replaced (lift k 0) w₂ w₃ (to + 1) (to + 1 + (e - p))) where
         twice : Stands w₃ (to + 1) (to + 1 + (e - p)) (lift k 0 (lift n c (x .raw)))
@@ -149,21 +150,57 @@ module _ (mark : ℕ) {p e n c k to : ℕ} {s w : List ℕ} (x : Writable s w p 
           all = λ K h. rw (stands-unique h (x .stands) .0) (record {
             work = q .same-length ∙ r .same-length ∙ copied-length;
             below = agree-trans (agree-trans (agree-set w to mark (omega arith)) (agree-part (m .below) (omega arith) (omega arith))) (agree-part front (omega arith) (omega arith));
-            marked = front .same to (omega arith) (omega arith) ∙ m .below .same to (omega arith) (omega arith) ∙ getD-set-same w to mark 0 (omega (arith, x .work, whole .1));
+            marked = front .same to (omega arith) (omega arith) ∙ m .below .same to (omega arith) (omega arith) ∙ getD-set-same w to mark 0 (omega (arith, x .work, whole .2));
             stands = rw (← add-one to) twice;
           });
         }
 
+  -- ---- One byte: copied, lifted and lifted again where it stands.
+  module _ (z : e - p ≡ 1) {b : ℕ} (qb : b ≡ getD s p 0) where
+    one-end : e ≡ p + 1
+    one-end = omega (arith, whole .3)
+
+    pub byte-asked : b < 254 → liftIndex n c b < 256
+    byte-asked l = rw qb (one-index n c (x .stands) one-end (x .first) (rw qb at l))
+
+    room : to + 1 < length (set w to mark)
+    room = omega (arith, whole .2, length-set w to mark, x .work)
+
+    there : (r : ℕ) → getD (set (set w to mark) (to + 1) r) (to + 1) 0 ≡ r
+    there r = getD-set-same (set w to mark) (to + 1) r 0 room
+
+    one-moved : Moved s (set w to mark) (set (set w to mark) (to + 1) b) p (e - p) (to + 1)
+    one-moved = record {
+      same-length = length-set (set w to mark) (to + 1) b;
+      below = agree-set (set w to mark) (to + 1) b (omega arith);
+      same = λ i g. let q : to + 1 + i ≡ to + 1 = omega arith in let y : p ≡ p + i = omega arith in
+          ap (λ j. getD (set (set w to mark) (to + 1) b) j 0) q ∙ there b ∙ qb ∙ ap (λ j. getD s j 0) y;
+    }
+
+    module _ {b₁ : ℕ} (f : Raised n c b b₁) where
+      one-first : Replaced (lift n c) (set (set w to mark) (to + 1) b) (set (set w to mark) (to + 1) b₁) (to + 1) (to + 1 + (e - p))
+      one-first = rw (set-set (set w to mark) (to + 1) b b₁) at (one-lifted n c (copied one-moved) (omega arith) {r = b₁} (rw (there b) f))
+
+      pub again-asked : b₁ < 254 → liftIndex k 0 b₁ < 256
+      again-asked l = rw (there b₁) at (one-index k 0 (once one-moved one-first) (omega arith) (x .second) (rw (there b₁) l))
+
+      pub one-puts : {b₂ : ℕ} → Raised k 0 b₁ b₂ → Puts mark s w (set (set w to mark) (to + 1) b₂) p e n c k to (to + 1 + (e - p))
+      one-puts {b₂} g = puts one-moved one-first (rw (set-set (set w to mark) (to + 1) b₁ b₂) at (one-lifted k 0 (once one-moved one-first) (omega arith) {r = b₂} (rw (there b₁) g)))
+
 -- ---- From the term, or from the work array.
-module _ (t : List ℕ) {w : List ℕ} {p e n c m to : ℕ} where
-  pub source-term : (b : Bool) → b ≡ true → Writable (cond b t w) w p e n c m to → Writable t w p e n c m to
-  source-term b h x = rw h at x
+module _ (t w : List ℕ) where
+  pub source-term : (b : Bool) → b ≡ true → cond b t w ≡ t
+  source-term b h = rw h
 
-  pub source-work : (b : Bool) → b ≡ false → Writable (cond b t w) w p e n c m to → Writable w w p e n c m to
-  source-work b h x = rw h at x
+  pub source-work : (b : Bool) → b ≡ false → cond b t w ≡ w
+  source-work b h = rw h
 
-  pub put-term : (mark : ℕ) (b : Bool) {w′ : List ℕ} {r : ℕ} → b ≡ true → Puts mark t w w′ p e n c m to r → Puts mark (cond b t w) w w′ p e n c m to r
-  put-term mark b h x = rw h x
+  pub source-length : (b : Bool) (i v : ℕ) → length (cond b t (set w i v)) ≡ length (cond b t w)
+  source-length true i v = refl
+  source-length false i v = length-set w i v
 
-  pub put-work : (mark : ℕ) (b : Bool) {w′ : List ℕ} {r : ℕ} → b ≡ false → Puts mark w w w′ p e n c m to r → Puts mark (cond b t w) w w′ p e n c m to r
-  put-work mark b h x = rw h x
+  pub moved-term : {w′ : List ℕ} {p n to : ℕ} (b : Bool) → b ≡ true → Moved t w w′ p n to → Moved (cond b t w) w w′ p n to
+  moved-term b h m = rw h m
+
+  pub moved-work : {w′ : List ℕ} {p n to : ℕ} (b : Bool) → b ≡ false → Moved w w w′ p n to → Moved (cond b t w) w w′ p n to
+  moved-work b h m = rw h m

@@ -4,18 +4,39 @@ use Prim.Native.Nat.{ℕ, suc, _+_, _≤_, _<_}
 use mathlib.Core.Path.{_≡_}
 use mathlib.Core.List.{List}
 use lib.ListN.{length, getD}
-use Rattle.calculus.specs.Terms.{Term, size, lift}
+use Rattle.calculus.specs.Terms.{Term, size, lift, liftIndex}
 use Rattle.code.specs.Limits.{longestTerm, longestState}
 use Rattle.code.specs.Code.{Coded}
 use Rattle.code.specs.Claims.{Stands}
 use Rattle.code.specs.Scope.{scope}
 use Rattle.frames.specs.Stored.{Agree}
+use Rattle.texts.specs.Texts.{depthIn, Depths, Origin}
 
 -- n bytes of s from p stand in w′ from `to`; below, w′ is w.
 pub record Moved (s w w′ : List ℕ) (p n to : ℕ) : Type 0 where
   pub same-length : length w′ ≡ length w
   pub below : Agree w w′ 0 to
   pub same : (i : ℕ) → i < n → getD w′ (to + i) 0 ≡ getD s (p + i) 0
+
+-- r is the byte b with c abstractors in scope or cut off, lifted by n.
+pub record Raised (n c b r : ℕ) : Type 0 where
+  pub index : b < 0xfe → r ≡ liftIndex n c b
+  pub operator : 0xfe ≤ b → r ≡ b
+
+-- A term stands in the work array w whose depths are those from o on, counted from the first. Lifted by n above c, it has variables' bytes.
+pub record Copied (w depths : List ℕ) (from e o n c : ℕ) : Type 0 where
+  pub work : length w ≡ longestState
+  pub term : Term
+  pub stands : Stands w from e term
+  pub coded : Coded (lift n c term)
+  pub inside : o + size term ≤ length depths
+  pub deep : (i : ℕ) → i < size term → getD depths (o + i) 0 ≡ getD depths o 0 + depthIn term i
+
+-- What stands in s from p up to e is a copy of the text of t at o, whose depths are known.
+pub record Placed (t depths s : List ℕ) (p e o : ℕ) : Type 0 where
+  pub deep : Depths t depths
+  pub long : length t ≤ length depths
+  pub origin : (X : Term) → Stands s p e X → Origin t o X
 
 -- A mark and then L were written from `to` up to e.
 pub record WrittenTerm (mark : ℕ) (w w′ : List ℕ) (to e : ℕ) (L : Term) : Type 0 where

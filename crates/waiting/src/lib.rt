@@ -1,14 +1,14 @@
 // The waiting applicators: six numbers for each in one lent array, and writing a term where a frame ends.
 ghost use mathlib.Core.Path.{_≡_};
-ghost use mathlib.Core.Bool.{true, false, cond};
-ghost use Prim.Native.Nat.{_+_, _*_, _≤_, _<_};
-ghost use lib.ListN.{length};
+ghost use mathlib.Core.Bool.{false, cond};
+ghost use Prim.Native.Nat.{_+_, _-_, _*_, _≤_, _<_, min};
+ghost use lib.ListN.{length, getD};
+ghost use Rattle.calculus.specs.Terms.{lift, liftIndex};
 ghost use Rattle.code.specs.Limits.{longestState};
+ghost use Rattle.indices.specs.Passes.{Replaced};
 ghost use Rattle.waiting.specs.Waiting.{slotOf, SmallSlot, Noted};
-ghost use Rattle.waiting.specs.Writing.{Moved, Writable, Puts};
+ghost use Rattle.waiting.specs.Writing.{Moved, Raised, Copied, Placed, Writable, Puts};
 use frames::Work;
-use indices::lift_above;
-use indices::lift_in_place;
 
 // A waiting applicator: its place in the term or, for a copy, in the text that it is a copy of; where its bytes stand; the frame's
 // depth when it was met; the lift that its K is seen through; and the scope of what waited before it.
@@ -75,71 +75,111 @@ fn copy_in(work: &mut Work, p: usize, n: usize, to: usize)
     }
 }
 
-// The mark, and the term of t from p up to e, lifted by n above c and then by m.
-fn write_from_text(
-    t: &[u8],
-    work: &mut Work,
-    mark: u8,
-    p: usize,
-    e: usize,
-    to: usize,
-    n: usize,
-    c: usize,
-    m: usize,
-) -> usize
-    requires { ⌜ (c < 65536) × Writable (now t) (now work) p e n c m to ⌝ }
-    ensures { λ r. ⌜ Puts mark (now (t .entry)) (now (work .entry)) (now (work .exit)) p e n c m to r ⌝ }
+// A lift by more than 255, or above more, does the same to a byte as by 255, or above it.
+fn byte_at_most(n: usize) -> u8
+    ensures { λ r. ⌜ r ≡ min n 255 ⌝ }
 {
-    let size = e - p;
-    let end = to + 1 + size;
-    work[to] = mark;
-    copy_from(t, p, size, work, to + 1);
-    lift_above(work, to + 1, end, n, c);
-    lift_in_place(work, to + 1, end, m);
-    end
+    if n < 256 { n as u8 } else { 255 }
 }
 
-// The mark, and the term of work from p up to e, lifted by n above c and then by m.
-fn write_from_work(
-    work: &mut Work,
-    mark: u8,
-    p: usize,
-    e: usize,
-    to: usize,
-    n: usize,
-    c: usize,
-    m: usize,
-) -> usize
-    requires { ⌜ (e ≤ to) × (c < 65536) × Writable (now work) (now work) p e n c m to ⌝ }
-    ensures { λ r. ⌜ Puts mark (now (work .entry)) (now (work .entry)) (now (work .exit)) p e n c m to r ⌝ }
+// The index that a byte is: 0, which no lift raises, for an applicator or an abstractor.
+fn index_of(b: u8) -> u8
+    ensures { λ r. ⌜ (b < 254 → r ≡ b) × (254 ≤ b → r ≡ 0) ⌝ }
 {
-    let size = e - p;
-    let end = to + 1 + size;
-    work[to] = mark;
-    copy_in(work, p, size, to + 1);
-    lift_above(work, to + 1, end, n, c);
-    lift_in_place(work, to + 1, end, m);
-    end
+    if b < 254 { b } else { 0 }
 }
 
-// The same, from the term or from the work array.
+fn past(b: u8, low: u8) -> u8
+    ensures { λ r. ⌜ r ≡ b - low ⌝ }
+{
+    if b > low { b - low } else { 0 }
+}
+
+// The byte b with d abstractors of its term in scope, lifted by n above `low`. Each `if` only chooses a value: so a loop over it has no
+// branches and does several bytes at once.
+fn raised(b: u8, d: u8, n: u8, low: u8) -> u8
+    requires { ⌜ (b < 254 → liftIndex n (low + d) b < 256) ⌝ }
+    ensures { λ r. ⌜ Raised n (low + d) b r ⌝ }
+{
+    if past(index_of(b), low) > d { b + n } else { b }
+}
+
+// The byte of a term that is one byte, lifted by n above c.
+fn lifted_byte(b: u8, n: usize, c: usize) -> u8
+    requires { ⌜ (b < 254 → liftIndex n c b < 256) ⌝ }
+    ensures { λ r. ⌜ Raised n c b r ⌝ }
+{
+    raised(b, 0, byte_at_most(n), byte_at_most(c))
+}
+
+// The term that stands in work from `from` up to `to`, a copy of one whose depths stand from o on, is lifted by n above c.
+fn lift_copy(work: &mut Work, from: usize, to: usize, depths: &[u8], o: usize, n: usize, c: usize)
+    requires { ⌜ Copied (now work) (now depths) from to o n c ⌝ }
+    ensures { λ r. ⌜ Replaced (lift n c) (now (work .entry)) (now (work .exit)) from to ⌝ }
+{
+    if n == 0 {
+        return;
+    }
+    let by = byte_at_most(n);
+    let low = byte_at_most(c);
+    let base = depths[o];
+    let size = to - from;
+    let mut i = 0;
+    while i < size {
+        let b = work[from + i];
+        work[from + i] = raised(b, depths[o + i] - base, by, low);
+        i += 1;
+    }
+}
+
+fn byte_in(t: &[u8], work: &Work, in_term: bool, p: usize) -> u8
+    requires { ⌜ (p < length (cond in_term (now t) (now work))) × (length (now work) ≡ longestState) ⌝ }
+    ensures { λ r. ⌜ r ≡ getD (cond in_term (now (t .entry)) (now (work .entry))) p 0 ⌝ }
+{
+    if in_term { t[p] } else { work[p] }
+}
+
+// n bytes from p on, of the term or of the work array.
+fn copy(t: &[u8], work: &mut Work, in_term: bool, p: usize, n: usize, to: usize)
+    requires { ⌜ (p + n ≤ length (cond in_term (now t) (now work))) × (in_term ≡ false → p + n ≤ to) × (to + n ≤ longestState) × (length (now work) ≡ longestState) ⌝ }
+    ensures { λ r. ⌜ Moved (cond in_term (now (t .entry)) (now (work .entry))) (now (work .entry)) (now (work .exit)) p n to ⌝ }
+{
+    if in_term {
+        copy_from(t, p, n, work, to);
+        return;
+    }
+    copy_in(work, p, n, to);
+}
+
+// The mark, and the term from p up to e of t or of the work array, a copy of the text of t at o, lifted by n above c and then by m.
 pub fn put(
     t: &[u8],
+    depths: &[u8],
     work: &mut Work,
     mark: u8,
     in_term: bool,
     p: usize,
     e: usize,
+    o: usize,
     to: usize,
     n: usize,
     c: usize,
     m: usize,
 ) -> usize
-    requires { ⌜ (c < 65536) × (in_term ≡ false → e ≤ to) × Writable (cond in_term (now t) (now work)) (now work) p e n c m to ⌝ }
+    requires { ⌜ (c < 65536) × (in_term ≡ false → e ≤ to) × Writable (cond in_term (now t) (now work)) (now work) p e n c m to × Placed (now t) (now depths) (cond in_term (now t) (now work)) p e o ⌝ }
     ensures { λ r. ⌜ Puts mark (cond in_term (now (t .entry)) (now (work .entry))) (now (work .entry)) (now (work .exit)) p e n c m to r ⌝ }
 {
-    if in_term {
-        return write_from_text(t, work, mark, p, e, to, n, c, m);
+    let size = e - p;
+    let end = to + 1 + size;
+    if size == 1 {
+        let b = byte_in(t, work, in_term, p);
+        work[to] = mark;
+        work[to + 1] = lifted_byte(lifted_byte(b, n, c), m, 0);
+        return end;
     }
-    write_from_work(work, mark, p, e, to, n, c, m)
+    work[to] = mark;
+    copy(t, work, in_term, p, size, to + 1);
+    lift_copy(work, to + 1, end, depths, o, n, c);
+    lift_copy(work, to + 1, end, depths, o, m, 0);
+    end
 }

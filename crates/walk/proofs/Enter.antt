@@ -14,7 +14,7 @@ use Rattle.calculus.proofs.Lift.{lift-zero, size-lift}
 use Rattle.code.specs.Limits.{longestFile, longestTerm, longestState, mostAbstractors}
 use Rattle.code.specs.Claims.{Stands}
 use Rattle.code.specs.Scope.{scope}
-use Rattle.code.proofs.Parts.{stands-start, stands-end}
+use Rattle.code.proofs.Parts.{stands-start, stands-end, stands-unique}
 use Rattle.code.proofs.Scope.{scope-lift, closed-coded}
 use Rattle.fields.specs.Fields.{GroupAt, Groups}
 use Rattle.fields.proofs.Groups.{room as room-left}
@@ -30,12 +30,12 @@ use Rattle.texts.proofs.Origins.{origin-abs, origin-lift}
 use Rattle.verdict.specs.Bounds.{waitingSize, waitingScope}
 use Rattle.verdict.specs.Verdict.{same-at, Progress, Run, passed, stopped, andThen, finish}
 use Rattle.waiting.specs.Waiting.{Waiting, termsOf, liftWaiting, Part, slotOf, Waits, Queue}
-use Rattle.waiting.specs.Writing.{WrittenTerm, Writable, Puts}
+use Rattle.waiting.specs.Writing.{Placed, WrittenTerm, Writable, Puts}
 use Rattle.waiting.specs.declared.Slot.{Slot}
 use Rattle.waiting.proofs.Texts.{positive, Two, text-abs}
 use Rattle.waiting.proofs.Queues.{size-lifted, scope-lifted, queue-empty, queue-base, Last, queue-last, queue-deeper, queue-agree, queue-before, raw-size, now-part, waits-writable, waits-written}
 use Rattle.walk.specs.State.{Text, Arrays, Sound, sound-single, sound-pair, Notes, Reached, stateOf, restOf, agendaOf, OwnText, StateAt}
-use Rattle.walk.specs.Contracts.{answering, going, pastOf, Halts, halts-compared, Says, says-stopped, Becomes, becomes-answer, becomes-state, Keeps, Onward}
+use Rattle.walk.specs.Contracts.{answering, going, pastOf, DepthsKnown, Halts, halts-compared, Says, says-stopped, Becomes, becomes-answer, becomes-state, Keeps, Onward}
 use Rattle.walk.specs.declared.WalkState.{WalkState}
 use Rattle.walk.specs.declared.Turned.{Turned}
 use Rattle.walk.proofs.Rules.{rest-alone, rest-waiting, rest-copied}
@@ -50,6 +50,9 @@ reached-inside r = omega (arith, r .file-bound, room-left (r .stand))
 -- the arrays with one more entry
 abbrev pub entryArrays : Arrays → List ℕ → (n at origin : ℕ) → Arrays
 entryArrays m w n at origin = record { work = w; list = m .list; domains = set (m .domains) n at; origins = set (m .origins) n origin }
+
+origin-is : {t : List ℕ} {o : ℕ} {X Y : Term} → X ≡ Y → Origin t o X → Origin t o Y
+origin-is e h = rw (← e) h
 
 part-at : {d d′ : ℕ} {t : Term} → d ≡ d′ → Part d t → Part d′ t
 part-at e q = rw (← e) q
@@ -162,6 +165,9 @@ module _ {x : Text} {m : Arrays} {f : FrameRecord} {s : WalkState} {R : Frame} {
 
       second-now : Stands (cond (s .«in_term») (x .term) w₁) (s .from + 1 + n) (z .end) (two-abs .two)
       second-now = rw mid (source-now (s .«in_term») refl (omega arith) (two-abs .second))
+
+      pub domain-placed : {depths : List ℕ} → DepthsKnown (x .term) depths → Placed (x .term) depths (cond (s .«in_term») (x .term) w₁) (s .from + 1) (s .from + 1 + n) (s .origin + 1)
+      domain-placed k = record { deep = k .deep; long = k .long; origin = λ X h. origin-is (stands-unique (first-now) h .0) (origins-abs .0) }
 
       pub domain-writable : {to : ℕ} → f .end ≤ to → to + suc (size (two-abs .one)) ≤ longestState
           → (s .cut < 65536) × (s .«in_term» ≡ false → s .from + 1 + n ≤ to) × Writable (cond (s .«in_term») (x .term) w₁) w₁ (s .from + 1) (s .from + 1 + n) (s .shift) (s .cut) 0 to
@@ -283,6 +289,16 @@ module _ {x : Text} {m : Arrays} {f : FrameRecord} {s : WalkState} {R : Frame} {
 
       pub applied-writable : Writable src (m .work) (v .at + 1) (v .at + 1 + k) (v .shift) (v .cut) (f .len - v .depth) (f .end)
       applied-writable = rw (last-end, q) (waits-writable (l .slot) (z .stored .work) (omega arith) sc)
+
+      slot-stands : Stands src (slotOf (m .list) (top - 1) .at + 1) (l .slot .end) (l .slot .raw)
+      slot-stands = rw add-one (l .slot .stands)
+
+      pub applied-placed : {depths : List ℕ} → DepthsKnown (x .term) depths → Placed (x .term) depths src (v .at + 1) (v .at + 1 + k) (v .place + 1)
+      applied-placed e = record {
+        deep = e .deep;
+        long = e .long;
+        origin = λ X h. rw q (origin-is (stands-unique slot-stands (rw (last-end, q) at h) .0) (l .slot .origin));
+      }
 
       module _ {w₁ : List ℕ} {a : ℕ} (u : Puts 0xfe src (m .work) w₁ (v .at + 1) (v .at + 1 + k) (v .shift) (v .cut) (f .len - v .depth) (f .end) a) where
         pub applied-written : WrittenTerm 0xfe (m .work) w₁ (f .end) a (l .last .term)

@@ -20,16 +20,16 @@ use Rattle.compare.specs.Compares.{Comparing, Compares}
 use Rattle.texts.proofs.Origins.{origin-inside}
 use Rattle.verdict.specs.Verdict.{Progress, Run, finish}
 use Rattle.waiting.specs.Waiting.{Waiting, slotOf, Waits}
-use Rattle.waiting.specs.Writing.{Writable, Puts}
+use Rattle.waiting.specs.Writing.{Placed, Writable, Puts}
 use Rattle.waiting.specs.declared.Slot.{Slot}
 use Rattle.waiting.proofs.Texts.{positive}
 use Rattle.waiting.proofs.Queues.{queue-base}
 use Rattle.walk.specs.State.{Text, Arrays, stateOf, restOf, StateAt}
-use Rattle.walk.specs.Contracts.{answering, going, pastOf, pairing, settledOf, Becomes, comes-now, comes-compared, Keeps, Onward, AbstractorAt, SizesKnown, Wagons}
+use Rattle.walk.specs.Contracts.{answering, going, pastOf, pairing, settledOf, Becomes, comes-now, comes-compared, Keeps, Onward, AbstractorAt, SizesKnown, DepthsKnown, Wagons}
 use Rattle.walk.specs.declared.WalkState.{WalkState}
 use Rattle.walk.specs.declared.Turned.{Turned}
 use Rattle.walk.proofs.States.{Room, room, origin-bound}
-use Rattle.walk.proofs.Enter.{entryArrays, reached-inside, two-abs, origins-abs, fewer-entries, past-bounds, further, domain-writable, domain-written, alone-room, alone-becomes, applied-writable, domain-asked, domain-whole, pair-below, pair-end, pair-bounds, last-copied, copied-fits, copied-size, copied-becomes, last-waiting, one-waits, waiting-size, waiting-writable, waiting-asked, waiting-keeps, comparing, waiting-stops, waiting-becomes}
+use Rattle.walk.proofs.Enter.{domain-placed, applied-placed, applied-written, waiting-fits, entryArrays, reached-inside, two-abs, origins-abs, fewer-entries, past-bounds, further, domain-writable, domain-written, alone-room, alone-becomes, applied-writable, domain-asked, domain-whole, pair-below, pair-end, pair-bounds, last-copied, copied-fits, copied-size, copied-becomes, last-waiting, one-waits, waiting-size, waiting-writable, waiting-asked, waiting-keeps, comparing, waiting-stops, waiting-becomes}
 
 -- the size that is known of a waiting K
 slot-size : {t src sizes : List ℕ} {d limit k : ℕ} {w : Waiting} {u v : Slot} → SizesKnown t sizes → v ≡ u → k ≡ getD sizes (v .place + 1) 0 → (y : Waits t src d limit u w) → k ≡ size (y .raw)
@@ -80,6 +80,9 @@ module _ {x : Text} {m : Arrays} {f : FrameRecord} {s : WalkState} {n : ℕ} (g 
   goes h = record { end-grows = h; len-grows = omega arith; same-bottom = refl; further = further here (has-room here) (g .high) (g .no-app) (size-here here) }
 
   -- nothing waits
+  pub alone-placed : {depths : List ℕ} → DepthsKnown (x .term) depths → Placed (x .term) depths (cond (s .«in_term») (x .term) (m .work)) (s .from + 1) (s .from + 1 + n) (s .origin + 1)
+  alone-placed k = domain-placed here (has-room here) (g .high) (g .no-app) (size-here here) (here .stored .work) agree-refl k
+
   pub alone-asked : s .bottom ≡ s .top → (s .cut < 65536) × (s .«in_term» ≡ false → s .from + 1 + n ≤ f .end) × Writable (cond (s .«in_term») (x .term) (m .work)) (m .work) (s .from + 1) (s .from + 1 + n) (s .shift) (s .cut) 0 (f .end)
   alone-asked q = domain-writable here (has-room here) (g .high) (g .no-app) (size-here here) (here .stored .work) agree-refl (omega arith) (alone-room here (has-room here) (g .high) (g .no-app) (size-here here) q)
 
@@ -113,12 +116,25 @@ module _ {x : Text} {m : Arrays} {f : FrameRecord} {s : WalkState} {n : ℕ} (g 
             let e = copied-fits here (has-room here) (g .high) (g .no-app) (size-here here) y in
             (slot-end q (l .slot) (copied-known here), applied-writable here (has-room here) (g .high) (g .no-app) (size-here here) l (e .0) (e .1) q (copied-known here))
 
+        pub copied-placed : {depths : List ℕ} → DepthsKnown (x .term) depths → Placed (x .term) depths (m .work) (v .at + 1) (v .at + 1 + k) (v .place + 1)
+        copied-placed d =
+            let l = last-copied here (has-room here) (g .high) (g .no-app) (size-here here) y in
+            let e = copied-fits here (has-room here) (g .high) (g .no-app) (size-here here) y in
+            applied-placed here (has-room here) (g .high) (g .no-app) (size-here here) l (e .0) (e .1) q (copied-known here) d
+
         module _ {w₁ : List ℕ} {a : ℕ} (u : Puts 0xfe (m .work) (m .work) w₁ (v .at + 1) (v .at + 1 + k) (v .shift) (v .cut) (f .len - v .depth) (f .end) a) where
           pub copied-domain : (s .cut < 65536) × (s .«in_term» ≡ false → s .from + 1 + n ≤ a) × Writable (cond (s .«in_term») (x .term) w₁) w₁ (s .from + 1) (s .from + 1 + n) (s .shift) (s .cut) 0 a
           copied-domain =
               let l = last-copied here (has-room here) (g .high) (g .no-app) (size-here here) y in
               let e = copied-fits here (has-room here) (g .high) (g .no-app) (size-here here) y in
               domain-asked here (has-room here) (g .high) (g .no-app) (size-here here) l (e .0) (e .1) q (copied-known here) u
+
+          pub copied-domain-placed : {depths : List ℕ} → DepthsKnown (x .term) depths → Placed (x .term) depths (cond (s .«in_term») (x .term) w₁) (s .from + 1) (s .from + 1 + n) (s .origin + 1)
+          copied-domain-placed d =
+              let l = last-copied here (has-room here) (g .high) (g .no-app) (size-here here) y in
+              let e = copied-fits here (has-room here) (g .high) (g .no-app) (size-here here) y in
+              let w = applied-written here (has-room here) (g .high) (g .no-app) (size-here here) l (e .0) (e .1) q (copied-known here) u in
+              domain-placed here (has-room here) (g .high) (g .no-app) (size-here here) (w .work) (w .below) d
 
           module _ {w₂ : List ℕ} {b : ℕ} (t : Puts 0xff (cond (s .«in_term») (x .term) w₁) w₁ w₂ (s .from + 1) (s .from + 1 + n) (s .shift) (s .cut) 0 a b) where
             pub copied-bounds : (a + 1 < 65536) × (1 + k ≤ s .size)
@@ -153,12 +169,25 @@ module _ {x : Text} {m : Arrays} {f : FrameRecord} {s : WalkState} {n : ℕ} (g 
         pub waiting-applied : Writable (x .term) (m .work) (v .at + 1) (v .at + 1 + k) (v .shift) (v .cut) (f .len - v .depth) (f .end)
         waiting-applied = waiting-writable here (has-room here) (g .high) (g .no-app) (size-here here) y ne q (waiting-known here)
 
+        pub waiting-placed : {depths : List ℕ} → DepthsKnown (x .term) depths → Placed (x .term) depths (x .term) (v .at + 1) (v .at + 1 + k) (v .place + 1)
+        waiting-placed d =
+            let l = last-waiting here (has-room here) (g .high) (g .no-app) (size-here here) y ne in
+            let e = waiting-fits here (has-room here) (g .high) (g .no-app) (size-here here) y ne in
+            applied-placed here (has-room here) (g .high) (g .no-app) (size-here here) l (e .0) (e .1) (slot-now here) (waiting-known here) d
+
         pub waiting-smaller : 1 + k ≤ s .size
         waiting-smaller = waiting-size here (has-room here) (g .high) (g .no-app) (size-here here) y ne q (waiting-known here)
 
         module _ {w₁ : List ℕ} {a : ℕ} (u : Puts 0xfe (x .term) (m .work) w₁ (v .at + 1) (v .at + 1 + k) (v .shift) (v .cut) (f .len - v .depth) (f .end) a) where
           pub waiting-domain : (s .cut < 65536) × (s .«in_term» ≡ false → s .from + 1 + n ≤ a) × Writable (cond (s .«in_term») (x .term) w₁) w₁ (s .from + 1) (s .from + 1 + n) (s .shift) (s .cut) 0 a
           waiting-domain = waiting-asked here (has-room here) (g .high) (g .no-app) (size-here here) y ne q (waiting-known here) u
+
+          pub waiting-domain-placed : {depths : List ℕ} → DepthsKnown (x .term) depths → Placed (x .term) depths (cond (s .«in_term») (x .term) w₁) (s .from + 1) (s .from + 1 + n) (s .origin + 1)
+          waiting-domain-placed d =
+              let l = last-waiting here (has-room here) (g .high) (g .no-app) (size-here here) y ne in
+              let e = waiting-fits here (has-room here) (g .high) (g .no-app) (size-here here) y ne in
+              let w = applied-written here (has-room here) (g .high) (g .no-app) (size-here here) l (e .0) (e .1) (slot-now here) (waiting-known here) u in
+              domain-placed here (has-room here) (g .high) (g .no-app) (size-here here) (w .work) (w .below) d
 
           module _ {w₂ : List ℕ} {b : ℕ} (t : Puts 0xff (cond (s .«in_term») (x .term) w₁) w₁ w₂ (s .from + 1) (s .from + 1 + n) (s .shift) (s .cut) 0 a b) where
             same-below : (length w₂ ≡ longestState) × Agree (m .work) w₂ 0 (f .end) × (f .end ≤ b) × (a + 1 < 65536)

@@ -183,7 +183,12 @@ pub record Going (x : Text) (m₀ : Arrays) (f₀ : FrameRecord) (s₀ : WalkSta
 
 pub going-start : {x : Text} {m : Arrays} {f : FrameRecord} {s : WalkState} → Stated x m f s → Going x m f s m f s
 going-start g = record {
-  start = g; keeps = keeps-all g; end-grown = omega arith; len-grown = omega arith; same-bottom = refl; further = omega arith;
+  start = g;
+  keeps = keeps-all g;
+  end-grown = omega arith;
+  len-grown = omega arith;
+  same-bottom = refl;
+  further = omega arith;
   all = λ R W Q B p z. record { frame = R; ww = W; qq = Q; body = B; progress = p; at = z; same = refl };
 }
 
@@ -247,7 +252,12 @@ module _ {x : Text} {m₀ : Arrays} {f₀ : FrameRecord} {s₀ : WalkState} {m :
       onward q (becomes-answer i j) = absurd (e i)
       onward q (becomes-inner i j k l o u w v) = absurd (h i)
       onward q (becomes-state {R = R} {W = W} {Q = Q} {B = B} {p = p} i j k l o) = record {
-        frame = R; ww = W; qq = Q; body = B; progress = p; at = j;
+        frame = R;
+        ww = W;
+        qq = Q;
+        body = B;
+        progress = p;
+        at = j;
         same = q ∙ o ∙ ap (λ c. finish (agendaOf c (r .state .own) (r .state .place) R W Q B) p) (sym k);
       }
 
@@ -475,7 +485,6 @@ module _ {x : Text} {m₀ : Arrays} {f₀ : FrameRecord} {s₀ : WalkState} {m :
 
     pub compared-bounds : (f .end < 65536) × (f .len < mostAbstractors)
     compared-bounds = on-bounds g on-made (λ e. omega arith) (λ e. omega arith) refl
-
 
 pub compared-few : {x : Text} {m₀ : Arrays} {f₀ : FrameRecord} {s₀ : WalkState} {m : Arrays} {f : FrameRecord} {s : WalkState} {n : ℕ} → Going x m₀ f₀ s₀ m f s → s .comparisons ≡ n + 1 → n < 65536
 compared-few g e = let r = now-stated g .at .reached in omega (arith, r .few, reached-inside r)

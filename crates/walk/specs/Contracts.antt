@@ -18,7 +18,7 @@ use Rattle.frames.specs.Stored.{Agree, pushed}
 use Rattle.frames.specs.declared.FrameRecord.{FrameRecord}
 use Rattle.compare.specs.Compares.{GroundIs, Comparing, Compares}
 use Rattle.compare.specs.declared.Compared.{Compared}
-use Rattle.texts.specs.Texts.{Sized, Origin}
+use Rattle.texts.specs.Texts.{Sized, Depths, Origin}
 use Rattle.verdict.specs.Bounds.{stateFits}
 use Rattle.verdict.specs.Verdict.{Ground, something-waits, state-outgrown, not-reached, placeOf, Progress, Run, passed, stopped, finish, checkTerm}
 use Rattle.waiting.specs.Waiting.{Waiting, slotOf, Noted}
@@ -260,6 +260,11 @@ pub record AbstractorAt (x : Text) (m : Arrays) (f : FrameRecord) (s : WalkState
 pub record SizesKnown (t sizes : List ℕ) : Type 0 where
   pub sizes-are : (o : ℕ) (X : Term) → Origin t o X → getD sizes o 0 ≡ size X
   pub long : length t ≤ length sizes
+
+-- And its depths.
+pub record DepthsKnown (t depths : List ℕ) : Type 0 where
+  pub deep : Depths t depths
+  pub long : length t ≤ length depths
 
 pub record Wagons (x : Text) (m m′ : Arrays) (f : FrameRecord) (s : WalkState) (a b : List ℕ) (r : Turned) : Type 0 where
   pub keeps : Keeps m m′ (f .len) (f .end) (s .bottom)

@@ -10,7 +10,7 @@ ghost use Rattle.code.specs.Limits.{longestTerm, longestState, mostAbstractors}
 ghost use Rattle.frames.specs.Stored.{recordOf};
 ghost use Rattle.compare.specs.Sides.{Buffers};
 ghost use Rattle.walk.specs.State.{textOf, arraysOf, Stated};
-ghost use Rattle.walk.specs.Contracts.{within, answering, going, pairing, completedOf, pastOf, metOf, typedOf, innerOf, checkedOf, TestAs, DueAs, TauTurn, WaitReady, WaitTurn, SizesKnown, AbstractorAt, Wagons, Known, Turns, InnerAt, Checks, Walkable, WholeAnswer, WalkAnswer};
+ghost use Rattle.walk.specs.Contracts.{within, answering, going, pairing, completedOf, pastOf, metOf, typedOf, innerOf, checkedOf, TestAs, DueAs, TauTurn, WaitReady, WaitTurn, SizesKnown, DepthsKnown, AbstractorAt, Wagons, Known, Turns, InnerAt, Checks, Walkable, WholeAnswer, WalkAnswer};
 use code::numbers::ACCEPTED;
 use code::numbers::LONGEST_STATE;
 use code::numbers::LONGEST_TERM;
@@ -375,6 +375,7 @@ fn wait(list: &mut [u16], len: usize, s: WalkState, n: usize, y: usize) -> Turne
 // [U], whose U has n bytes, while nothing waits: (iv) and (x).
 fn enter_alone(
     t: &[u8],
+    depths: &[u8],
     work: &mut Work,
     domains: &mut Starts,
     origins: &mut Starts,
@@ -383,17 +384,19 @@ fn enter_alone(
     s: WalkState,
     n: usize,
 ) -> Turned
-    requires { ⌜ (s .bottom ≡ s .top) × ((file list starts : List ℕ) × AbstractorAt (textOf file (now t)) (arraysOf (now work) list (now domains) (now origins)) (recordOf starts len end) s n) ⌝ }
+    requires { ⌜ (s .bottom ≡ s .top) × DepthsKnown (now t) (now depths) × ((file list starts : List ℕ) × AbstractorAt (textOf file (now t)) (arraysOf (now work) list (now domains) (now origins)) (recordOf starts len end) s n) ⌝ }
     ensures { λ r. ⌜ ((file list starts a b : List ℕ) → AbstractorAt (textOf file (now (t .entry))) (arraysOf (now (work .entry)) list (now (domains .entry)) (now (origins .entry))) (recordOf starts len end) s n → Wagons (textOf file (now (t .entry))) (arraysOf (now (work .entry)) list (now (domains .entry)) (now (origins .entry))) (arraysOf (now (work .exit)) list (now (domains .exit)) (now (origins .exit))) (recordOf starts len end) s a b r) ⌝ }
 {
     let from = s.from + 1;
     let b = put(
         t,
+        depths,
         work,
         0xff,
         s.in_term,
         from,
         from + n,
+        s.origin + 1,
         end,
         s.shift,
         s.cut,
@@ -419,6 +422,7 @@ fn enter_alone(
 fn enter_copied(
     t: &[u8],
     sizes: &[u16],
+    depths: &[u8],
     work: &mut Work,
     list: &[u16],
     domains: &mut Starts,
@@ -428,20 +432,23 @@ fn enter_copied(
     s: WalkState,
     n: usize,
 ) -> Turned
-    requires { ⌜ SizesKnown (now t) (now sizes) × (s .middle < s .top) × ((file starts : List ℕ) × AbstractorAt (textOf file (now t)) (arraysOf (now work) (now list) (now domains) (now origins)) (recordOf starts len end) s n) ⌝ }
+    requires { ⌜ SizesKnown (now t) (now sizes) × (s .middle < s .top) × DepthsKnown (now t) (now depths) × ((file starts : List ℕ) × AbstractorAt (textOf file (now t)) (arraysOf (now work) (now list) (now domains) (now origins)) (recordOf starts len end) s n) ⌝ }
     ensures { λ r. ⌜ ((file starts a b : List ℕ) → AbstractorAt (textOf file (now (t .entry))) (arraysOf (now (work .entry)) (now (list .entry)) (now (domains .entry)) (now (origins .entry))) (recordOf starts len end) s n → Wagons (textOf file (now (t .entry))) (arraysOf (now (work .entry)) (now (list .entry)) (now (domains .entry)) (now (origins .entry))) (arraysOf (now (work .exit)) (now (list .entry)) (now (domains .exit)) (now (origins .exit))) (recordOf starts len end) s a b r) ⌝ }
 {
     let top = s.top - 1;
     let v = slot_at(list, top);
-    let k = wide16(sizes[v.place + 1]);
+    let o = v.place + 1;
+    let k = wide16(sizes[o]);
     let at = v.at + 1;
     let a = put(
         t,
+        depths,
         work,
         0xfe,
         false,
         at,
         at + k,
+        o,
         end,
         v.shift,
         v.cut,
@@ -450,11 +457,13 @@ fn enter_copied(
     let from = s.from + 1;
     let b = put(
         t,
+        depths,
         work,
         0xff,
         s.in_term,
         from,
         from + n,
+        s.origin + 1,
         a,
         s.shift,
         s.cut,
@@ -480,6 +489,7 @@ fn enter_copied(
 fn enter_waiting(
     t: &[u8],
     sizes: &[u16],
+    depths: &[u8],
     work: &mut Work,
     list: &[u16],
     domains: &mut Starts,
@@ -489,20 +499,23 @@ fn enter_waiting(
     s: WalkState,
     n: usize,
 ) -> Turned
-    requires { ⌜ SizesKnown (now t) (now sizes) × (s .top ≤ s .middle) × (s .bottom ≡ s .top → ⊥) × ((file starts : List ℕ) × AbstractorAt (textOf file (now t)) (arraysOf (now work) (now list) (now domains) (now origins)) (recordOf starts len end) s n) ⌝ }
+    requires { ⌜ SizesKnown (now t) (now sizes) × (s .top ≤ s .middle) × (s .bottom ≡ s .top → ⊥) × DepthsKnown (now t) (now depths) × ((file starts : List ℕ) × AbstractorAt (textOf file (now t)) (arraysOf (now work) (now list) (now domains) (now origins)) (recordOf starts len end) s n) ⌝ }
     ensures { λ r. ⌜ ((file starts a b : List ℕ) → AbstractorAt (textOf file (now (t .entry))) (arraysOf (now (work .entry)) (now (list .entry)) (now (domains .entry)) (now (origins .entry))) (recordOf starts len end) s n → Wagons (textOf file (now (t .entry))) (arraysOf (now (work .entry)) (now (list .entry)) (now (domains .entry)) (now (origins .entry))) (arraysOf (now (work .exit)) (now (list .entry)) (now (domains .exit)) (now (origins .exit))) (recordOf starts len end) s a b r) ⌝ }
 {
     let top = s.top - 1;
     let v = slot_at(list, top);
-    let k = wide16(sizes[v.place + 1]);
+    let o = v.place + 1;
+    let k = wide16(sizes[o]);
     let at = v.at + 1;
     let a = put(
         t,
+        depths,
         work,
         0xfe,
         true,
         at,
         at + k,
+        o,
         end,
         v.shift,
         v.cut,
@@ -511,11 +524,13 @@ fn enter_waiting(
     let from = s.from + 1;
     let b = put(
         t,
+        depths,
         work,
         0xff,
         s.in_term,
         from,
         from + n,
+        s.origin + 1,
         a,
         s.shift,
         s.cut,
@@ -589,6 +604,7 @@ fn turn(
     t: &[u8],
     sizes: &[u16],
     scopes: &[u16],
+    depths: &[u8],
     work: &mut Work,
     list: &mut [u16],
     domains: &mut Starts,
@@ -597,7 +613,7 @@ fn turn(
     end: usize,
     s: WalkState,
 ) -> Turned
-    requires { ⌜ Known (now t) (now sizes) (now scopes) × ((file starts : List ℕ) × Stated (textOf file (now t)) (arraysOf (now work) (now list) (now domains) (now origins)) (recordOf starts len end) s) ⌝ }
+    requires { ⌜ Known (now t) (now sizes) (now scopes) × DepthsKnown (now t) (now depths) × ((file starts : List ℕ) × Stated (textOf file (now t)) (arraysOf (now work) (now list) (now domains) (now origins)) (recordOf starts len end) s) ⌝ }
     ensures { λ r. ⌜ ((file starts a b : List ℕ) → Stated (textOf file (now (t .entry))) (arraysOf (now (work .entry)) (now (list .entry)) (now (domains .entry)) (now (origins .entry))) (recordOf starts len end) s → Turns (textOf file (now (t .entry))) (arraysOf (now (work .entry)) (now (list .entry)) (now (domains .entry)) (now (origins .entry))) (arraysOf (now (work .exit)) (now (list .exit)) (now (domains .exit)) (now (origins .exit))) (recordOf starts len end) s a b r) ⌝ }
 {
     if !test(sizes, scopes, len, end, s) {
@@ -624,12 +640,36 @@ fn turn(
         return wait(list, len, s, n, y);
     }
     if s.bottom == s.top {
-        return enter_alone(t, work, domains, origins, len, end, s, n);
+        return enter_alone(t, depths, work, domains, origins, len, end, s, n);
     }
     if s.middle < s.top {
-        return enter_copied(t, sizes, work, list, domains, origins, len, end, s, n);
+        return enter_copied(
+            t,
+            sizes,
+            depths,
+            work,
+            list,
+            domains,
+            origins,
+            len,
+            end,
+            s,
+            n,
+        );
     }
-    enter_waiting(t, sizes, work, list, domains, origins, len, end, s, n)
+    enter_waiting(
+        t,
+        sizes,
+        depths,
+        work,
+        list,
+        domains,
+        origins,
+        len,
+        end,
+        s,
+        n,
+    )
 }
 
 // The check of a term from a state of its own text on: a loop of turns, and a call for what stands inside each applicator and
@@ -639,6 +679,7 @@ fn term(
     t: &[u8],
     sizes: &[u16],
     scopes: &[u16],
+    depths: &[u8],
     work: &mut Work,
     list: &mut [u16],
     domains: &mut Starts,
@@ -650,7 +691,7 @@ fn term(
     end: usize,
     s: WalkState,
 ) -> Walked
-    requires { ⌜ Known (now t) (now sizes) (now scopes) × Stated (textOf (now file) (now t)) (arraysOf (now work) (now list) (now domains) (now origins)) (recordOf (now starts) len end) s × Buffers (now left) (now right) ⌝ }
+    requires { ⌜ Known (now t) (now sizes) (now scopes) × Stated (textOf (now file) (now t)) (arraysOf (now work) (now list) (now domains) (now origins)) (recordOf (now starts) len end) s × Buffers (now left) (now right) × DepthsKnown (now t) (now depths) ⌝ }
     ensures { λ r. ⌜ Checks (textOf (now (file .entry)) (now (t .entry))) (arraysOf (now (work .entry)) (now (list .entry)) (now (domains .entry)) (now (origins .entry))) (arraysOf (now (work .exit)) (now (list .exit)) (now (domains .exit)) (now (origins .exit))) (recordOf (now (starts .entry)) len end) s (now (left .exit)) (now (right .exit)) r × Buffers (now (left .exit)) (now (right .exit)) ⌝ }
 {
     let own = *starts;
@@ -665,6 +706,7 @@ fn term(
             t,
             sizes,
             scopes,
+            depths,
             work,
             list,
             domains,
@@ -683,6 +725,7 @@ fn term(
                 t,
                 sizes,
                 scopes,
+                depths,
                 work,
                 list,
                 domains,
@@ -749,6 +792,7 @@ fn inside(
     t: &[u8],
     sizes: &[u16],
     scopes: &[u16],
+    depths: &[u8],
     work: &mut Work,
     list: &mut [u16],
     domains: &mut Starts,
@@ -760,7 +804,7 @@ fn inside(
     end: usize,
     s: WalkState,
 ) -> Walked
-    requires { ⌜ Known (now t) (now sizes) (now scopes) × InnerAt (textOf (now file) (now t)) (arraysOf (now work) (now list) (now domains) (now origins)) (recordOf (now starts) len end) s × Buffers (now left) (now right) ⌝ }
+    requires { ⌜ Known (now t) (now sizes) (now scopes) × InnerAt (textOf (now file) (now t)) (arraysOf (now work) (now list) (now domains) (now origins)) (recordOf (now starts) len end) s × Buffers (now left) (now right) × DepthsKnown (now t) (now depths) ⌝ }
     ensures { λ r. ⌜ Checks (textOf (now (file .entry)) (now (t .entry))) (arraysOf (now (work .entry)) (now (list .entry)) (now (domains .entry)) (now (origins .entry))) (arraysOf (now (work .exit)) (now (list .exit)) (now (domains .exit)) (now (origins .exit))) (recordOf (now (starts .entry)) len end) (innerOf s) (now (left .exit)) (now (right .exit)) r × Buffers (now (left .exit)) (now (right .exit)) ⌝ }
 {
     let place = s.place + 1;
@@ -786,6 +830,7 @@ fn inside(
         t,
         sizes,
         scopes,
+        depths,
         work,
         list,
         domains,
@@ -806,17 +851,18 @@ fn whole(
     at: usize,
     sizes: &mut [u16],
     scopes: &mut [u16],
+    depths: &mut [u8],
     list: &mut [u16],
     left: &mut Letters,
     right: &mut Letters,
 ) -> Walked
-    requires { ⌜ Walkable (now file) (now t) at × (length (now t) ≤ length (now sizes)) × (length (now t) ≤ length (now scopes)) × Buffers (now left) (now right) ⌝ }
+    requires { ⌜ Walkable (now file) (now t) at × (length (now t) ≤ length (now sizes)) × (length (now t) ≤ length (now scopes)) × Buffers (now left) (now right) × (length (now t) ≤ length (now depths)) ⌝ }
     ensures { λ r. ⌜ WholeAnswer (now (file .entry)) (now (t .entry)) at (length (now (list .entry))) (now (left .exit)) (now (right .exit)) r × Buffers (now (left .exit)) (now (right .exit)) ⌝ }
 {
     let mut work: Work = [0; LONGEST_STATE];
     let mut domains: Starts = [0; MOST_ABSTRACTORS];
     let mut origins: Starts = [0; MOST_ABSTRACTORS];
-    measure(t, left, sizes, scopes);
+    measure(t, left, sizes, scopes, depths);
     let f = empty_frame();
     let s = WalkState {
         own: true,
@@ -840,6 +886,7 @@ fn whole(
         t,
         sizes,
         scopes,
+        depths,
         &mut work,
         list,
         &mut domains,
@@ -872,6 +919,7 @@ fn short(file: &[u8], t: &[u8], at: usize, left: &mut Letters, right: &mut Lette
     }
     let mut sizes: [u16; 256] = [0; 256];
     let mut scopes: [u16; 256] = [0; 256];
+    let mut depths: [u8; 256] = [0; 256];
     let mut list: [u16; 768] = [0; 768];
     whole(
         file,
@@ -879,6 +927,7 @@ fn short(file: &[u8], t: &[u8], at: usize, left: &mut Letters, right: &mut Lette
         at,
         &mut sizes[..],
         &mut scopes[..],
+        &mut depths[..],
         &mut list[..],
         left,
         right,
@@ -903,6 +952,7 @@ pub fn walk_term(
     }
     let mut sizes: [u16; LONGEST_TERM] = [0; LONGEST_TERM];
     let mut scopes: [u16; LONGEST_TERM] = [0; LONGEST_TERM];
+    let mut depths: [u8; LONGEST_TERM] = [0; LONGEST_TERM];
     let mut list: [u16; LONGEST_LIST] = [0; LONGEST_LIST];
     whole(
         file,
@@ -910,6 +960,7 @@ pub fn walk_term(
         at,
         &mut sizes[..],
         &mut scopes[..],
+        &mut depths[..],
         &mut list[..],
         left,
         right,

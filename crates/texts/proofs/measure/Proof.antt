@@ -2,21 +2,24 @@
 -- Assumes nothing.
 use native.Mathlib.Omega.{arith}
 use mathlib.Core.Path.{_∙_}
-use Rattle.texts.proofs.Measuring.{whole-readable, whole-lettered, MeasuredFrom, measured-none, measured-all, measurable, here, small-extent, measured-more}
+use Rattle.texts.proofs.Measuring.{whole-readable, whole-lettered, notable, depths-known, MeasuredFrom, measured-none, measured-all, measurable, here, small-extent, measured-more}
 use Rattle.texts.proofs.measure.Statement.{statement}
 use Rattle.texts.proofs.measure.Tie as tie
 
 abbrev Inv-loop : tie.InvT-loop
-Inv-loop t letters sizes₀ scopes₀ n i₀ sizes scopes i = MeasuredFrom t letters sizes₀ scopes₀ sizes scopes i
+Inv-loop t letters sizes₀ scopes₀ depths n i₀ sizes scopes i = MeasuredFrom t letters sizes₀ scopes₀ sizes scopes i
 
 abbrev μ-loop : tie.MeasureT-loop
-μ-loop t letters sizes₀ scopes₀ n i₀ sizes scopes i = i
+μ-loop t letters sizes₀ scopes₀ depths n i₀ sizes scopes i = i
 
 read-requires : tie.Need-read-requires Inv-loop μ-loop
-read-requires c κs = whole-readable (c .before .before .before .before .pre .0) _ (c .before .before .before .before .pre .1)
+read-requires c κs = whole-readable (c .before .before .before .before .before .pre .0) _ (c .before .before .before .before .before .pre .1)
+
+note-depths-requires : tie.Need-note-depths-requires Inv-loop μ-loop
+note-depths-requires c κs = notable (c .before .before .before .before .before .before .before .before .pre .0) _ (c .before .before .before .before .before .before .before .before .pre .1) (c .before .before .read .ensures) (c .before .before .before .before .before .before .before .before .pre .4)
 
 loop-holds : tie.Need-loop-holds Inv-loop μ-loop
-loop-holds c = measured-none (c .before .before .before .before .before .pre .0) (c .read .ensures .same-length ∙ c .before .before .before .before .before .pre .1) (whole-lettered (c .before .before .before .before .before .pre .0) _ (c .before .before .before .before .before .pre .1) (c .read .ensures)) (c .before .before .before .before .before .pre .2) (c .before .before .before .before .before .pre .3)
+loop-holds c = measured-none (c .before .before .before .before .before .before .before .before .before .before .before .pre .0) (c .before .before .before .before .before .read .ensures .same-length ∙ c .before .before .before .before .before .before .before .before .before .before .before .pre .1) (whole-lettered (c .before .before .before .before .before .before .before .before .before .before .before .pre .0) _ (c .before .before .before .before .before .before .before .before .before .before .before .pre .1) (c .before .before .before .before .before .read .ensures)) (c .before .before .before .before .before .before .before .before .before .before .before .pre .2) (c .before .before .before .before .before .before .before .before .before .before .before .pre .3)
 
 sub-i : tie.Need-sub-i Inv-loop μ-loop
 sub-i c = omega arith
@@ -54,8 +57,11 @@ same-length c = c .before .loop .inv .same-sizes
 same-length-2 : tie.Need-same-length-2 Inv-loop μ-loop
 same-length-2 c = c .before .loop .inv .same-scopes
 
+same-length-3 : tie.Need-same-length-3 Inv-loop μ-loop
+same-length-3 c = c .before .before .before .before .note-depths .ensures .same-length
+
 returns : tie.Need-returns Inv-loop μ-loop
-returns c = (measured-all (c .before .loop .inv) (c .loop-test .left), c .before .loop .inv .array, c .before .loop .inv .same-sizes, c .before .loop .inv .same-scopes)
+returns c = (measured-all (c .before .loop .inv) (c .loop-test .left), c .before .loop .inv .array, c .before .loop .inv .same-sizes, c .before .loop .inv .same-scopes, depths-known (c .before .before .before .before .before .before .before .before .before .before .before .before .before .pre .0) _ (c .before .before .before .before .before .before .before .before .before .before .before .before .before .pre .1) (c .before .before .before .before .before .before .before .read .ensures) (c .before .before .before .before .note-depths .ensures), c .before .before .before .before .note-depths .ensures .same-length)
 
 pub measure-spec : {M : Type 1} → statement M
 measure-spec =
@@ -64,6 +70,7 @@ measure-spec =
     Inv-loop
     μ-loop
     read-requires
+    note-depths-requires
     loop-holds
     sub-i
     extent-at-requires
@@ -77,4 +84,5 @@ measure-spec =
     loop-again
     same-length
     same-length-2
+    same-length-3
     returns)

@@ -1,7 +1,7 @@
 -- `walk::enter_copied` meets its contract.
 -- Assumes nothing.
 use native.Mathlib.Omega.{arith}
-use Rattle.walk.proofs.Entering.{abs-bounds, copied-slot, copied-asked, copied-domain, copied-bounds, copied-wagons}
+use Rattle.walk.proofs.Entering.{copied-placed, copied-domain-placed, abs-bounds, copied-slot, copied-asked, copied-domain, copied-bounds, copied-wagons}
 use borrow.Author.Needs.{needs}
 use Rattle.walk.proofs.enter_copied.Statement.{statement}
 use Rattle.walk.proofs.enter_copied.Tie as tie
@@ -19,14 +19,14 @@ sub-top c = search needs
 slot-at-requires : tie.Need-slot-at-requires
 slot-at-requires c κs = search needs
 
-add-wide16 : tie.Need-add-wide16
-add-wide16 c = search needs
+add-o : tie.Need-add-o
+add-o c = search needs
 
 mul-wide16 : tie.Need-mul-wide16
 mul-wide16 c = search needs
 
 shared-slice-read-wide16 : tie.Need-shared-slice-read-wide16
-shared-slice-read-wide16 c = omega (arith, copied-slot (c .before .before .before .before .before .before .before .pre .2 .2) (c .before .before .slot-at .ensures .0) (c .before .before .before .before .before .before .before .pre .1), (c .before .before .before .before .before .before .before .pre .0) .long)
+shared-slice-read-wide16 c = omega (arith, copied-slot (c .before .before .before .before .before .before .before .before .pre .3 .2) (c .before .before .slot-at .ensures .0) (c .before .before .before .before .before .before .before .before .pre .1), (c .before .before .before .before .before .before .before .before .pre .0) .long)
 
 wide16-requires : tie.Need-wide16-requires
 wide16-requires c κs = search needs
@@ -38,61 +38,64 @@ add-put : tie.Need-add-put
 add-put c = search needs
 
 sub-put : tie.Need-sub-put
-sub-put c = omega (arith, copied-slot (c .before .before .before .before .before .before .before .before .before .before .before .pre .2 .2) (c .before .before .before .before .before .before .slot-at .ensures .0) (c .before .before .before .before .before .before .before .before .before .before .before .pre .1))
+sub-put c = omega (arith, copied-slot (c .before .before .before .before .before .before .before .before .before .before .before .before .pre .3 .2) (c .before .before .before .before .before .before .slot-at .ensures .0) (c .before .before .before .before .before .before .before .before .before .before .before .before .pre .1))
 
 put-requires : tie.Need-put-requires
-put-requires c κs = let a = copied-asked (c .before .before .before .before .before .before .before .before .before .before .before .pre .2 .2) (c .before .before .before .before .before .before .slot-at .ensures .0) (c .before .before .before .before .before .before .before .before .before .before .before .pre .1) (c .before .before .before .before .before .before .before .before .before .before .before .pre .0) (c .before .before .before .wide16 .ensures .0) in (copied-slot (c .before .before .before .before .before .before .before .before .before .before .before .pre .2 .2) (c .before .before .before .before .before .before .slot-at .ensures .0) (c .before .before .before .before .before .before .before .before .before .before .before .pre .1) .2, λ i. a .0, a .1)
+put-requires c κs = let a = copied-asked (c .before .before .before .before .before .before .before .before .before .before .before .before .pre .3 .2) (c .before .before .before .before .before .before .slot-at .ensures .0) (c .before .before .before .before .before .before .before .before .before .before .before .before .pre .1) (c .before .before .before .before .before .before .before .before .before .before .before .before .pre .0) (c .before .before .before .wide16 .ensures .0) in (copied-slot (c .before .before .before .before .before .before .before .before .before .before .before .before .pre .3 .2) (c .before .before .before .before .before .before .slot-at .ensures .0) (c .before .before .before .before .before .before .before .before .before .before .before .before .pre .1) .2, λ i. a .0, a .1, copied-placed (c .before .before .before .before .before .before .before .before .before .before .before .before .pre .3 .2) (c .before .before .before .before .before .before .slot-at .ensures .0) (c .before .before .before .before .before .before .before .before .before .before .before .before .pre .1) (c .before .before .before .before .before .before .before .before .before .before .before .before .pre .0) (c .before .before .before .wide16 .ensures .0) (c .before .before .before .before .before .before .before .before .before .before .before .before .pre .2))
 
 add-from : tie.Need-add-from
-add-from c = omega (arith, abs-bounds (c .before .before .before .before .before .before .before .before .before .before .before .before .before .pre .2 .2))
+add-from c = omega (arith, abs-bounds (c .before .before .before .before .before .before .before .before .before .before .before .before .before .before .pre .3 .2))
 
 add-put-2 : tie.Need-add-put-2
-add-put-2 c = omega (arith, abs-bounds (c .before .before .before .before .before .before .before .before .before .before .before .before .before .before .pre .2 .2))
+add-put-2 c = omega (arith, abs-bounds (c .before .before .before .before .before .before .before .before .before .before .before .before .before .before .before .pre .3 .2))
+
+add-put-3 : tie.Need-add-put-3
+add-put-3 c = omega (arith, abs-bounds (c .before .before .before .before .before .before .before .before .before .before .before .before .before .before .before .before .pre .3 .2))
 
 put-requires-2 : tie.Need-put-requires-2
-put-requires-2 c κs = copied-domain (c .before .before .before .before .before .before .before .before .before .before .before .before .before .before .pre .2 .2) (c .before .before .before .before .before .before .before .before .before .slot-at .ensures .0) (c .before .before .before .before .before .before .before .before .before .before .before .before .before .before .pre .1) (c .before .before .before .before .before .before .before .before .before .before .before .before .before .before .pre .0) (c .before .before .before .before .before .before .wide16 .ensures .0) (c .before .before .put .ensures)
+put-requires-2 c κs = let a = copied-domain (c .before .before .before .before .before .before .before .before .before .before .before .before .before .before .before .before .pre .3 .2) (c .before .before .before .before .before .before .before .before .before .before .slot-at .ensures .0) (c .before .before .before .before .before .before .before .before .before .before .before .before .before .before .before .before .pre .1) (c .before .before .before .before .before .before .before .before .before .before .before .before .before .before .before .before .pre .0) (c .before .before .before .before .before .before .before .wide16 .ensures .0) (c .before .before .before .put .ensures) in (a .0, a .1, a .2, copied-domain-placed (c .before .before .before .before .before .before .before .before .before .before .before .before .before .before .before .before .pre .3 .2) (c .before .before .before .before .before .before .before .before .before .before .slot-at .ensures .0) (c .before .before .before .before .before .before .before .before .before .before .before .before .before .before .before .before .pre .1) (c .before .before .before .before .before .before .before .before .before .before .before .before .before .before .before .before .pre .0) (c .before .before .before .before .before .before .before .wide16 .ensures .0) (c .before .before .before .put .ensures) (c .before .before .before .before .before .before .before .before .before .before .before .before .before .before .before .before .pre .2))
 
 add-domains : tie.Need-add-domains
-add-domains c = omega (arith, abs-bounds (c .before .before .before .before .before .before .before .before .before .before .before .before .before .before .before .pre .2 .2), copied-bounds (c .before .before .before .before .before .before .before .before .before .before .before .before .before .before .before .pre .2 .2) (c .before .before .before .before .before .before .before .before .before .before .slot-at .ensures .0) (c .before .before .before .before .before .before .before .before .before .before .before .before .before .before .before .pre .1) (c .before .before .before .before .before .before .before .before .before .before .before .before .before .before .before .pre .0) (c .before .before .before .before .before .before .before .wide16 .ensures .0) (c .before .before .before .put .ensures) (c .put2 .ensures))
+add-domains c = omega (arith, abs-bounds (c .before .before .before .before .before .before .before .before .before .before .before .before .before .before .before .before .before .pre .3 .2), copied-bounds (c .before .before .before .before .before .before .before .before .before .before .before .before .before .before .before .before .before .pre .3 .2) (c .before .before .before .before .before .before .before .before .before .before .before .slot-at .ensures .0) (c .before .before .before .before .before .before .before .before .before .before .before .before .before .before .before .before .before .pre .1) (c .before .before .before .before .before .before .before .before .before .before .before .before .before .before .before .before .before .pre .0) (c .before .before .before .before .before .before .before .before .wide16 .ensures .0) (c .before .before .before .before .put .ensures) (c .put2 .ensures))
 
 cast-domains : tie.Need-cast-domains
-cast-domains c = omega (arith, abs-bounds (c .before .before .before .before .before .before .before .before .before .before .before .before .before .before .before .pre .2 .2), copied-bounds (c .before .before .before .before .before .before .before .before .before .before .before .before .before .before .before .pre .2 .2) (c .before .before .before .before .before .before .before .before .before .before .slot-at .ensures .0) (c .before .before .before .before .before .before .before .before .before .before .before .before .before .before .before .pre .1) (c .before .before .before .before .before .before .before .before .before .before .before .before .before .before .before .pre .0) (c .before .before .before .before .before .before .before .wide16 .ensures .0) (c .before .before .before .put .ensures) (c .put2 .ensures))
+cast-domains c = omega (arith, abs-bounds (c .before .before .before .before .before .before .before .before .before .before .before .before .before .before .before .before .before .pre .3 .2), copied-bounds (c .before .before .before .before .before .before .before .before .before .before .before .before .before .before .before .before .before .pre .3 .2) (c .before .before .before .before .before .before .before .before .before .before .before .slot-at .ensures .0) (c .before .before .before .before .before .before .before .before .before .before .before .before .before .before .before .before .before .pre .1) (c .before .before .before .before .before .before .before .before .before .before .before .before .before .before .before .before .before .pre .0) (c .before .before .before .before .before .before .before .before .wide16 .ensures .0) (c .before .before .before .before .put .ensures) (c .put2 .ensures))
 
 mul-domains : tie.Need-mul-domains
-mul-domains c = omega (arith, abs-bounds (c .before .before .before .before .before .before .before .before .before .before .before .before .before .before .before .pre .2 .2))
+mul-domains c = omega (arith, abs-bounds (c .before .before .before .before .before .before .before .before .before .before .before .before .before .before .before .before .before .pre .3 .2))
 
 element-write-domains : tie.Need-element-write-domains
-element-write-domains c = omega (arith, abs-bounds (c .before .before .before .before .before .before .before .before .before .before .before .before .before .before .before .pre .2 .2))
+element-write-domains c = omega (arith, abs-bounds (c .before .before .before .before .before .before .before .before .before .before .before .before .before .before .before .before .before .pre .3 .2))
 
 add-origins : tie.Need-add-origins
-add-origins c = omega (arith, abs-bounds (c .before .before .before .before .before .before .before .before .before .before .before .before .before .before .before .before .pre .2 .2))
+add-origins c = omega (arith, abs-bounds (c .before .before .before .before .before .before .before .before .before .before .before .before .before .before .before .before .before .before .pre .3 .2))
 
 cast-origins : tie.Need-cast-origins
-cast-origins c = omega (arith, abs-bounds (c .before .before .before .before .before .before .before .before .before .before .before .before .before .before .before .before .pre .2 .2))
+cast-origins c = omega (arith, abs-bounds (c .before .before .before .before .before .before .before .before .before .before .before .before .before .before .before .before .before .before .pre .3 .2))
 
 mul-origins : tie.Need-mul-origins
-mul-origins c = omega (arith, abs-bounds (c .before .before .before .before .before .before .before .before .before .before .before .before .before .before .before .before .pre .2 .2))
+mul-origins c = omega (arith, abs-bounds (c .before .before .before .before .before .before .before .before .before .before .before .before .before .before .before .before .before .before .pre .3 .2))
 
 element-write-origins : tie.Need-element-write-origins
-element-write-origins c = omega (arith, abs-bounds (c .before .before .before .before .before .before .before .before .before .before .before .before .before .before .before .before .pre .2 .2))
+element-write-origins c = omega (arith, abs-bounds (c .before .before .before .before .before .before .before .before .before .before .before .before .before .before .before .before .before .before .pre .3 .2))
 
 add-past : tie.Need-add-past
-add-past c = omega (arith, abs-bounds (c .before .before .before .before .before .before .before .before .before .before .before .before .before .before .before .before .before .pre .2 .2))
+add-past c = omega (arith, abs-bounds (c .before .before .before .before .before .before .before .before .before .before .before .before .before .before .before .before .before .before .before .pre .3 .2))
 
 add-past-2 : tie.Need-add-past-2
 add-past-2 c = search needs
 
 sub-past : tie.Need-sub-past
-sub-past c = omega (arith, abs-bounds (c .before .before .before .before .before .before .before .before .before .before .before .before .before .before .before .before .before .before .pre .2 .2), copied-bounds (c .before .before .before .before .before .before .before .before .before .before .before .before .before .before .before .before .before .before .pre .2 .2) (c .before .before .before .before .before .before .before .before .before .before .before .before .before .slot-at .ensures .0) (c .before .before .before .before .before .before .before .before .before .before .before .before .before .before .before .before .before .before .pre .1) (c .before .before .before .before .before .before .before .before .before .before .before .before .before .before .before .before .before .before .pre .0) (c .before .before .before .before .before .before .before .before .before .before .wide16 .ensures .0) (c .before .before .before .before .before .before .put .ensures) (c .before .before .before .put2 .ensures))
+sub-past c = omega (arith, abs-bounds (c .before .before .before .before .before .before .before .before .before .before .before .before .before .before .before .before .before .before .before .before .pre .3 .2), copied-bounds (c .before .before .before .before .before .before .before .before .before .before .before .before .before .before .before .before .before .before .before .before .pre .3 .2) (c .before .before .before .before .before .before .before .before .before .before .before .before .before .before .slot-at .ensures .0) (c .before .before .before .before .before .before .before .before .before .before .before .before .before .before .before .before .before .before .before .before .pre .1) (c .before .before .before .before .before .before .before .before .before .before .before .before .before .before .before .before .before .before .before .before .pre .0) (c .before .before .before .before .before .before .before .before .before .before .before .wide16 .ensures .0) (c .before .before .before .before .before .before .before .put .ensures) (c .before .before .before .put2 .ensures))
 
 past-requires : tie.Need-past-requires
-past-requires c κs = let b = abs-bounds (c .before .before .before .before .before .before .before .before .before .before .before .before .before .before .before .before .before .before .pre .2 .2) in (b .0, b .1, b .2)
+past-requires c κs = let b = abs-bounds (c .before .before .before .before .before .before .before .before .before .before .before .before .before .before .before .before .before .before .before .before .pre .3 .2) in (b .0, b .1, b .2)
 
 onward-requires : tie.Need-onward-requires
 onward-requires c κs = search needs
 
 returns : tie.Need-returns
-returns c = λ file starts a b g. rw (c .onward .ensures, c .before .past .ensures) (copied-wagons g (c .before .before .before .before .before .before .before .before .before .before .before .before .before .before .before .slot-at .ensures .0) (c .before .before .before .before .before .before .before .before .before .before .before .before .before .before .before .before .before .before .before .before .pre .1) (c .before .before .before .before .before .before .before .before .before .before .before .before .before .before .before .before .before .before .before .before .pre .0) (c .before .before .before .before .before .before .before .before .before .before .before .before .wide16 .ensures .0) (c .before .before .before .before .before .before .before .before .put .ensures) (c .before .before .before .before .before .put2 .ensures) a b)
+returns c = λ file starts a b g. rw (c .onward .ensures, c .before .past .ensures) (copied-wagons g (c .before .before .before .before .before .before .before .before .before .before .before .before .before .before .before .before .slot-at .ensures .0) (c .before .before .before .before .before .before .before .before .before .before .before .before .before .before .before .before .before .before .before .before .before .before .pre .1) (c .before .before .before .before .before .before .before .before .before .before .before .before .before .before .before .before .before .before .before .before .before .before .pre .0) (c .before .before .before .before .before .before .before .before .before .before .before .before .before .wide16 .ensures .0) (c .before .before .before .before .before .before .before .before .before .put .ensures) (c .before .before .before .before .before .put2 .ensures) a b)
 
 pub enter-copied-spec : {M : Type 1} → statement M
 enter-copied-spec =
@@ -100,7 +103,7 @@ enter-copied-spec =
     (tie.spec
     sub-top
     slot-at-requires
-    add-wide16
+    add-o
     mul-wide16
     shared-slice-read-wide16
     wide16-requires
@@ -110,6 +113,7 @@ enter-copied-spec =
     put-requires
     add-from
     add-put-2
+    add-put-3
     put-requires-2
     add-domains
     cast-domains

@@ -3,7 +3,7 @@
 use mathlib.Core.Path.{sym}
 use native.Mathlib.Omega.{arith}
 use Rattle.walk.proofs.States.{no-confusion}
-use Rattle.walk.proofs.Entering.{abs-bounds, one-listed, waiting-slot, waiting-applied, waiting-smaller, waiting-domain, waiting-bounds, waiting-wagons}
+use Rattle.walk.proofs.Entering.{waiting-placed, waiting-domain-placed, abs-bounds, one-listed, waiting-slot, waiting-applied, waiting-smaller, waiting-domain, waiting-bounds, waiting-wagons}
 use borrow.Author.Needs.{needs}
 use Rattle.walk.proofs.enter_waiting.Statement.{statement}
 use Rattle.walk.proofs.enter_waiting.Tie as tie
@@ -16,19 +16,19 @@ use Rattle.walk.proofs.pair.Reads as pair-reads
 use Rattle.walk.proofs.past.Reads as past-reads
 
 sub-top : tie.Need-sub-top
-sub-top c = omega (arith, one-listed (c .before .before .before .before .pre .3 .2) (c .before .before .before .before .pre .1) (c .before .before .before .before .pre .2))
+sub-top c = omega (arith, one-listed (c .before .before .before .before .before .pre .4 .2) (c .before .before .before .before .before .pre .1) (c .before .before .before .before .before .pre .2))
 
 slot-at-requires : tie.Need-slot-at-requires
-slot-at-requires c κs = omega (arith, one-listed (c .before .before .before .before .pre .3 .2) (c .before .before .before .before .pre .1) (c .before .before .before .before .pre .2))
+slot-at-requires c κs = omega (arith, one-listed (c .before .before .before .before .before .pre .4 .2) (c .before .before .before .before .before .pre .1) (c .before .before .before .before .before .pre .2))
 
-add-wide16 : tie.Need-add-wide16
-add-wide16 c = search needs
+add-o : tie.Need-add-o
+add-o c = search needs
 
 mul-wide16 : tie.Need-mul-wide16
 mul-wide16 c = search needs
 
 shared-slice-read-wide16 : tie.Need-shared-slice-read-wide16
-shared-slice-read-wide16 c = omega (arith, waiting-slot (c .before .before .before .before .before .before .before .pre .3 .2) (c .before .before .slot-at .ensures .0) (c .before .before .before .before .before .before .before .pre .1) (c .before .before .before .before .before .before .before .pre .2), (c .before .before .before .before .before .before .before .pre .0) .long)
+shared-slice-read-wide16 c = omega (arith, waiting-slot (c .before .before .before .before .before .before .before .before .pre .4 .2) (c .before .before .slot-at .ensures .0) (c .before .before .before .before .before .before .before .before .pre .1) (c .before .before .before .before .before .before .before .before .pre .2), (c .before .before .before .before .before .before .before .before .pre .0) .long)
 
 wide16-requires : tie.Need-wide16-requires
 wide16-requires c κs = search needs
@@ -40,61 +40,64 @@ add-put : tie.Need-add-put
 add-put c = search needs
 
 sub-put : tie.Need-sub-put
-sub-put c = omega (arith, waiting-slot (c .before .before .before .before .before .before .before .before .before .before .before .pre .3 .2) (c .before .before .before .before .before .before .slot-at .ensures .0) (c .before .before .before .before .before .before .before .before .before .before .before .pre .1) (c .before .before .before .before .before .before .before .before .before .before .before .pre .2))
+sub-put c = omega (arith, waiting-slot (c .before .before .before .before .before .before .before .before .before .before .before .before .pre .4 .2) (c .before .before .before .before .before .before .slot-at .ensures .0) (c .before .before .before .before .before .before .before .before .before .before .before .before .pre .1) (c .before .before .before .before .before .before .before .before .before .before .before .before .pre .2))
 
 put-requires : tie.Need-put-requires
-put-requires c κs = (waiting-slot (c .before .before .before .before .before .before .before .before .before .before .before .pre .3 .2) (c .before .before .before .before .before .before .slot-at .ensures .0) (c .before .before .before .before .before .before .before .before .before .before .before .pre .1) (c .before .before .before .before .before .before .before .before .before .before .before .pre .2) .2, λ i. no-confusion (sym i), waiting-applied (c .before .before .before .before .before .before .before .before .before .before .before .pre .3 .2) (c .before .before .before .before .before .before .slot-at .ensures .0) (c .before .before .before .before .before .before .before .before .before .before .before .pre .1) (c .before .before .before .before .before .before .before .before .before .before .before .pre .2) (c .before .before .before .before .before .before .before .before .before .before .before .pre .0) (c .before .before .before .wide16 .ensures .0))
+put-requires c κs = (waiting-slot (c .before .before .before .before .before .before .before .before .before .before .before .before .pre .4 .2) (c .before .before .before .before .before .before .slot-at .ensures .0) (c .before .before .before .before .before .before .before .before .before .before .before .before .pre .1) (c .before .before .before .before .before .before .before .before .before .before .before .before .pre .2) .2, λ i. no-confusion (sym i), waiting-applied (c .before .before .before .before .before .before .before .before .before .before .before .before .pre .4 .2) (c .before .before .before .before .before .before .slot-at .ensures .0) (c .before .before .before .before .before .before .before .before .before .before .before .before .pre .1) (c .before .before .before .before .before .before .before .before .before .before .before .before .pre .2) (c .before .before .before .before .before .before .before .before .before .before .before .before .pre .0) (c .before .before .before .wide16 .ensures .0), waiting-placed (c .before .before .before .before .before .before .before .before .before .before .before .before .pre .4 .2) (c .before .before .before .before .before .before .slot-at .ensures .0) (c .before .before .before .before .before .before .before .before .before .before .before .before .pre .1) (c .before .before .before .before .before .before .before .before .before .before .before .before .pre .2) (c .before .before .before .before .before .before .before .before .before .before .before .before .pre .0) (c .before .before .before .wide16 .ensures .0) (c .before .before .before .before .before .before .before .before .before .before .before .before .pre .3))
 
 add-from : tie.Need-add-from
-add-from c = omega (arith, abs-bounds (c .before .before .before .before .before .before .before .before .before .before .before .before .before .pre .3 .2))
+add-from c = omega (arith, abs-bounds (c .before .before .before .before .before .before .before .before .before .before .before .before .before .before .pre .4 .2))
 
 add-put-2 : tie.Need-add-put-2
-add-put-2 c = omega (arith, abs-bounds (c .before .before .before .before .before .before .before .before .before .before .before .before .before .before .pre .3 .2))
+add-put-2 c = omega (arith, abs-bounds (c .before .before .before .before .before .before .before .before .before .before .before .before .before .before .before .pre .4 .2))
+
+add-put-3 : tie.Need-add-put-3
+add-put-3 c = omega (arith, abs-bounds (c .before .before .before .before .before .before .before .before .before .before .before .before .before .before .before .before .pre .4 .2))
 
 put-requires-2 : tie.Need-put-requires-2
-put-requires-2 c κs = waiting-domain (c .before .before .before .before .before .before .before .before .before .before .before .before .before .before .pre .3 .2) (c .before .before .before .before .before .before .before .before .before .slot-at .ensures .0) (c .before .before .before .before .before .before .before .before .before .before .before .before .before .before .pre .1) (c .before .before .before .before .before .before .before .before .before .before .before .before .before .before .pre .2) (c .before .before .before .before .before .before .before .before .before .before .before .before .before .before .pre .0) (c .before .before .before .before .before .before .wide16 .ensures .0) (c .before .before .put .ensures)
+put-requires-2 c κs = let a = waiting-domain (c .before .before .before .before .before .before .before .before .before .before .before .before .before .before .before .before .pre .4 .2) (c .before .before .before .before .before .before .before .before .before .before .slot-at .ensures .0) (c .before .before .before .before .before .before .before .before .before .before .before .before .before .before .before .before .pre .1) (c .before .before .before .before .before .before .before .before .before .before .before .before .before .before .before .before .pre .2) (c .before .before .before .before .before .before .before .before .before .before .before .before .before .before .before .before .pre .0) (c .before .before .before .before .before .before .before .wide16 .ensures .0) (c .before .before .before .put .ensures) in (a .0, a .1, a .2, waiting-domain-placed (c .before .before .before .before .before .before .before .before .before .before .before .before .before .before .before .before .pre .4 .2) (c .before .before .before .before .before .before .before .before .before .before .slot-at .ensures .0) (c .before .before .before .before .before .before .before .before .before .before .before .before .before .before .before .before .pre .1) (c .before .before .before .before .before .before .before .before .before .before .before .before .before .before .before .before .pre .2) (c .before .before .before .before .before .before .before .before .before .before .before .before .before .before .before .before .pre .0) (c .before .before .before .before .before .before .before .wide16 .ensures .0) (c .before .before .before .put .ensures) (c .before .before .before .before .before .before .before .before .before .before .before .before .before .before .before .before .pre .3))
 
 add-domains : tie.Need-add-domains
-add-domains c = omega (arith, abs-bounds (c .before .before .before .before .before .before .before .before .before .before .before .before .before .before .before .pre .3 .2), waiting-bounds (c .before .before .before .before .before .before .before .before .before .before .before .before .before .before .before .pre .3 .2) (c .before .before .before .before .before .before .before .before .before .before .slot-at .ensures .0) (c .before .before .before .before .before .before .before .before .before .before .before .before .before .before .before .pre .1) (c .before .before .before .before .before .before .before .before .before .before .before .before .before .before .before .pre .2) (c .before .before .before .before .before .before .before .before .before .before .before .before .before .before .before .pre .0) (c .before .before .before .before .before .before .before .wide16 .ensures .0) (c .before .before .before .put .ensures) (c .put2 .ensures))
+add-domains c = omega (arith, abs-bounds (c .before .before .before .before .before .before .before .before .before .before .before .before .before .before .before .before .before .pre .4 .2), waiting-bounds (c .before .before .before .before .before .before .before .before .before .before .before .before .before .before .before .before .before .pre .4 .2) (c .before .before .before .before .before .before .before .before .before .before .before .slot-at .ensures .0) (c .before .before .before .before .before .before .before .before .before .before .before .before .before .before .before .before .before .pre .1) (c .before .before .before .before .before .before .before .before .before .before .before .before .before .before .before .before .before .pre .2) (c .before .before .before .before .before .before .before .before .before .before .before .before .before .before .before .before .before .pre .0) (c .before .before .before .before .before .before .before .before .wide16 .ensures .0) (c .before .before .before .before .put .ensures) (c .put2 .ensures))
 
 cast-domains : tie.Need-cast-domains
-cast-domains c = omega (arith, abs-bounds (c .before .before .before .before .before .before .before .before .before .before .before .before .before .before .before .pre .3 .2), waiting-bounds (c .before .before .before .before .before .before .before .before .before .before .before .before .before .before .before .pre .3 .2) (c .before .before .before .before .before .before .before .before .before .before .slot-at .ensures .0) (c .before .before .before .before .before .before .before .before .before .before .before .before .before .before .before .pre .1) (c .before .before .before .before .before .before .before .before .before .before .before .before .before .before .before .pre .2) (c .before .before .before .before .before .before .before .before .before .before .before .before .before .before .before .pre .0) (c .before .before .before .before .before .before .before .wide16 .ensures .0) (c .before .before .before .put .ensures) (c .put2 .ensures))
+cast-domains c = omega (arith, abs-bounds (c .before .before .before .before .before .before .before .before .before .before .before .before .before .before .before .before .before .pre .4 .2), waiting-bounds (c .before .before .before .before .before .before .before .before .before .before .before .before .before .before .before .before .before .pre .4 .2) (c .before .before .before .before .before .before .before .before .before .before .before .slot-at .ensures .0) (c .before .before .before .before .before .before .before .before .before .before .before .before .before .before .before .before .before .pre .1) (c .before .before .before .before .before .before .before .before .before .before .before .before .before .before .before .before .before .pre .2) (c .before .before .before .before .before .before .before .before .before .before .before .before .before .before .before .before .before .pre .0) (c .before .before .before .before .before .before .before .before .wide16 .ensures .0) (c .before .before .before .before .put .ensures) (c .put2 .ensures))
 
 mul-domains : tie.Need-mul-domains
-mul-domains c = omega (arith, abs-bounds (c .before .before .before .before .before .before .before .before .before .before .before .before .before .before .before .pre .3 .2))
+mul-domains c = omega (arith, abs-bounds (c .before .before .before .before .before .before .before .before .before .before .before .before .before .before .before .before .before .pre .4 .2))
 
 element-write-domains : tie.Need-element-write-domains
-element-write-domains c = omega (arith, abs-bounds (c .before .before .before .before .before .before .before .before .before .before .before .before .before .before .before .pre .3 .2))
+element-write-domains c = omega (arith, abs-bounds (c .before .before .before .before .before .before .before .before .before .before .before .before .before .before .before .before .before .pre .4 .2))
 
 add-origins : tie.Need-add-origins
-add-origins c = omega (arith, abs-bounds (c .before .before .before .before .before .before .before .before .before .before .before .before .before .before .before .before .pre .3 .2))
+add-origins c = omega (arith, abs-bounds (c .before .before .before .before .before .before .before .before .before .before .before .before .before .before .before .before .before .before .pre .4 .2))
 
 cast-origins : tie.Need-cast-origins
-cast-origins c = omega (arith, abs-bounds (c .before .before .before .before .before .before .before .before .before .before .before .before .before .before .before .before .pre .3 .2))
+cast-origins c = omega (arith, abs-bounds (c .before .before .before .before .before .before .before .before .before .before .before .before .before .before .before .before .before .before .pre .4 .2))
 
 mul-origins : tie.Need-mul-origins
-mul-origins c = omega (arith, abs-bounds (c .before .before .before .before .before .before .before .before .before .before .before .before .before .before .before .before .pre .3 .2))
+mul-origins c = omega (arith, abs-bounds (c .before .before .before .before .before .before .before .before .before .before .before .before .before .before .before .before .before .before .pre .4 .2))
 
 element-write-origins : tie.Need-element-write-origins
-element-write-origins c = omega (arith, abs-bounds (c .before .before .before .before .before .before .before .before .before .before .before .before .before .before .before .before .pre .3 .2))
+element-write-origins c = omega (arith, abs-bounds (c .before .before .before .before .before .before .before .before .before .before .before .before .before .before .before .before .before .before .pre .4 .2))
 
 add-past : tie.Need-add-past
-add-past c = omega (arith, abs-bounds (c .before .before .before .before .before .before .before .before .before .before .before .before .before .before .before .before .before .pre .3 .2))
+add-past c = omega (arith, abs-bounds (c .before .before .before .before .before .before .before .before .before .before .before .before .before .before .before .before .before .before .before .pre .4 .2))
 
 add-past-2 : tie.Need-add-past-2
 add-past-2 c = search needs
 
 sub-past : tie.Need-sub-past
-sub-past c = omega (arith, waiting-smaller (c .before .before .before .before .before .before .before .before .before .before .before .before .before .before .before .before .before .before .pre .3 .2) (c .before .before .before .before .before .before .before .before .before .before .before .before .before .slot-at .ensures .0) (c .before .before .before .before .before .before .before .before .before .before .before .before .before .before .before .before .before .before .pre .1) (c .before .before .before .before .before .before .before .before .before .before .before .before .before .before .before .before .before .before .pre .2) (c .before .before .before .before .before .before .before .before .before .before .before .before .before .before .before .before .before .before .pre .0) (c .before .before .before .before .before .before .before .before .before .before .wide16 .ensures .0))
+sub-past c = omega (arith, waiting-smaller (c .before .before .before .before .before .before .before .before .before .before .before .before .before .before .before .before .before .before .before .before .pre .4 .2) (c .before .before .before .before .before .before .before .before .before .before .before .before .before .before .slot-at .ensures .0) (c .before .before .before .before .before .before .before .before .before .before .before .before .before .before .before .before .before .before .before .before .pre .1) (c .before .before .before .before .before .before .before .before .before .before .before .before .before .before .before .before .before .before .before .before .pre .2) (c .before .before .before .before .before .before .before .before .before .before .before .before .before .before .before .before .before .before .before .before .pre .0) (c .before .before .before .before .before .before .before .before .before .before .before .wide16 .ensures .0))
 
 past-requires : tie.Need-past-requires
-past-requires c κs = let b = abs-bounds (c .before .before .before .before .before .before .before .before .before .before .before .before .before .before .before .before .before .before .pre .3 .2) in (b .0, b .1, b .2)
+past-requires c κs = let b = abs-bounds (c .before .before .before .before .before .before .before .before .before .before .before .before .before .before .before .before .before .before .before .before .pre .4 .2) in (b .0, b .1, b .2)
 
 pair-requires : tie.Need-pair-requires
 pair-requires c κs = search needs
 
 returns : tie.Need-returns
-returns c = λ file starts a b g. rw (c .pair .ensures, c .before .past .ensures) (waiting-wagons g (c .before .before .before .before .before .before .before .before .before .before .before .before .before .before .before .slot-at .ensures .0) (c .before .before .before .before .before .before .before .before .before .before .before .before .before .before .before .before .before .before .before .before .pre .1) (c .before .before .before .before .before .before .before .before .before .before .before .before .before .before .before .before .before .before .before .before .pre .2) (c .before .before .before .before .before .before .before .before .before .before .before .before .before .before .before .before .before .before .before .before .pre .0) (c .before .before .before .before .before .before .before .before .before .before .before .before .wide16 .ensures .0) (c .before .before .before .before .before .before .before .before .put .ensures) (c .before .before .before .before .before .put2 .ensures) a b)
+returns c = λ file starts a b g. rw (c .pair .ensures, c .before .past .ensures) (waiting-wagons g (c .before .before .before .before .before .before .before .before .before .before .before .before .before .before .before .before .slot-at .ensures .0) (c .before .before .before .before .before .before .before .before .before .before .before .before .before .before .before .before .before .before .before .before .before .before .pre .1) (c .before .before .before .before .before .before .before .before .before .before .before .before .before .before .before .before .before .before .before .before .before .before .pre .2) (c .before .before .before .before .before .before .before .before .before .before .before .before .before .before .before .before .before .before .before .before .before .before .pre .0) (c .before .before .before .before .before .before .before .before .before .before .before .before .before .wide16 .ensures .0) (c .before .before .before .before .before .before .before .before .before .put .ensures) (c .before .before .before .before .before .put2 .ensures) a b)
 
 pub enter-waiting-spec : {M : Type 1} → statement M
 enter-waiting-spec =
@@ -102,7 +105,7 @@ enter-waiting-spec =
     (tie.spec
     sub-top
     slot-at-requires
-    add-wide16
+    add-o
     mul-wide16
     shared-slice-read-wide16
     wide16-requires
@@ -112,6 +115,7 @@ enter-waiting-spec =
     put-requires
     add-from
     add-put-2
+    add-put-3
     put-requires-2
     add-domains
     cast-domains

@@ -22,6 +22,9 @@ slice-aggregate-whole-2 c = search needs
 slice-aggregate-whole-3 : tie.Need-slice-aggregate-whole-3
 slice-aggregate-whole-3 c = search needs
 
+slice-aggregate-whole-4 : tie.Need-slice-aggregate-whole-4
+slice-aggregate-whole-4 c = search needs
+
 whole-requires : tie.Need-whole-requires
 whole-requires c κs = search needs
 
@@ -36,5 +39,6 @@ short-spec =
     slice-aggregate-whole
     slice-aggregate-whole-2
     slice-aggregate-whole-3
+    slice-aggregate-whole-4
     whole-requires
     returns-2)

@@ -26,11 +26,14 @@ slice-aggregate-whole-2 c = search needs
 slice-aggregate-whole-3 : tie.Need-slice-aggregate-whole-3
 slice-aggregate-whole-3 c = search needs
 
+slice-aggregate-whole-4 : tie.Need-slice-aggregate-whole-4
+slice-aggregate-whole-4 c = search needs
+
 whole-requires : tie.Need-whole-requires
-whole-requires c κs = let w = whole-term (c .before .before .before .before .before .before .before .before .before .before .before .before .pre .0) in (c .before .before .before .before .before .before .before .before .before .before .before .before .pre .0, omega (arith, w .short), omega (arith, w .short), c .before .before .before .before .before .before .before .short .ensures .1)
+whole-requires c κs = let w = whole-term (c .before .before .before .before .before .before .before .before .before .before .before .before .before .pre .0) in (c .before .before .before .before .before .before .before .before .before .before .before .before .before .pre .0, omega (arith, w .short), omega (arith, w .short), c .before .before .before .before .before .before .before .before .short .ensures .1, omega (arith, w .short))
 
 returns-2 : tie.Need-returns-2
-returns-2 c = (long-enough (c .before .before .before .whole .ensures .0), c .before .before .before .whole .ensures .1)
+returns-2 c = (long-enough (c .before .before .before .before .whole .ensures .0), c .before .before .before .before .whole .ensures .1)
 
 pub walk-term-spec : {M : Type 1} → statement M
 walk-term-spec =
@@ -41,5 +44,6 @@ walk-term-spec =
     slice-aggregate-whole
     slice-aggregate-whole-2
     slice-aggregate-whole-3
+    slice-aggregate-whole-4
     whole-requires
     returns-2)
