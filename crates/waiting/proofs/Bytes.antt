@@ -3,18 +3,22 @@
 use Prim.Native.Nat.{ℕ, _+_, _-_, _*_, _≤_, _<_}
 use mathlib.Core.Path.{_≡_, refl, ap, sym, _∙_}
 use mathlib.Core.Bool.{Bool, true, false, cond}
+use mathlib.Core.Logic.{_⊎_, inl, inr, ⊎-elim}
 use mathlib.Core.List.{List, _++_}
 use native.Mathlib.Omega.{arith}
 use native.Mathlib.Numerals.{add-one}
 use lib.ListN.{length, getD, set, take, drop, length-set, length-take, length-drop, take-append-drop}
 use lib.Seq.{getD-set-same, getD-set-other, set-set, ext-getD, getD-take, getD-drop}
 use Rattle.calculus.specs.Terms.{Term, lift, liftIndex}
-use Rattle.calculus.proofs.Lift.{lo, hi, cmp}
+use Rattle.calculus.proofs.Lift.{lo, hi, cmp, size-lift}
 use Rattle.code.specs.Limits.{longestState}
+use Rattle.code.specs.Code.{encode}
 use Rattle.code.specs.Claims.{Stands}
+use Rattle.code.proofs.RoundTrip.{length-encode}
 use Rattle.code.proofs.Parts.{stands-start, stands-end, stands-taken, stands-unique}
 use Rattle.frames.specs.Stored.{Agree}
 use Rattle.frames.proofs.Entries.{agree-refl, agree-part, agree-trans, agree-set, agree-take}
+use Rattle.parts.proofs.Stores.{drop-sets}
 use Rattle.indices.specs.Passes.{Replaced}
 use Rattle.indices.proofs.Replace.{lifted-stands, before-same}
 use Rattle.waiting.specs.Waiting.{Noted}
@@ -70,24 +74,29 @@ module _ (q : List ℕ) (j : ℕ) (v : Slot) (h : 6 * j + 6 ≤ length q) where
   noted = all-six (changed q (6 * j) (v .place) (omega arith)) (changed (set q (6 * j) (v .place)) (6 * j + 1) (v .at) in-1) (changed (set (set q (6 * j) (v .place)) (6 * j + 1) (v .at)) (6 * j + 2) (v .depth) in-2) (changed (set (set (set q (6 * j) (v .place)) (6 * j + 1) (v .at)) (6 * j + 2) (v .depth)) (6 * j + 3) (v .shift) in-3) (changed (set (set (set (set q (6 * j) (v .place)) (6 * j + 1) (v .at)) (6 * j + 2) (v .depth)) (6 * j + 3) (v .shift)) (6 * j + 4) (v .cut) in-4) (changed (set (set (set (set (set q (6 * j) (v .place)) (6 * j + 1) (v .at)) (6 * j + 2) (v .depth)) (6 * j + 3) (v .shift)) (6 * j + 4) (v .cut)) (6 * j + 5) (v .scope) in-5)
 
 -- ---- Bytes moved.
+-- a store below what is looked at
+agree-below : (w : List ℕ) {p e : ℕ} (i b : ℕ) → i < p → Agree w (set w i b) p e
+agree-below w i b h = record { same = λ j f g. getD-set-other w i j b 0 (λ z. omega arith) }
+
 pub moved-none : (s w : List ℕ) (p to : ℕ) → Moved s w w p 0 to
-moved-none s w p to = record { same-length = refl; below = agree-refl; same = λ i h. absurd (omega arith) }
+moved-none s w p to = record { same-length = refl; below = agree-refl; above = agree-refl; same = λ i h. absurd (omega arith) }
 
 pub moved-more : {s w w′ : List ℕ} {p i to : ℕ} (v : ℕ) → to + i < length w → v ≡ getD s (p + i) 0 → Moved s w w′ p i to → Moved s w (set w′ (to + i) v) p (i + 1) to
 moved-more {s} {w} {w′} {p} {i} {to} v h e m = record {
   same-length = length-set w′ (to + i) v ∙ m .same-length;
   below = agree-trans (m .below) (agree-set w′ (to + i) v (omega arith));
+  above = agree-trans (agree-part (m .above) (omega arith) (omega arith)) (agree-below w′ (to + i) v (omega arith));
   same = λ j g. elim (cmp i j) [
     | lo a ↦ let q : j ≡ i = omega arith in rw q (getD-set-same w′ (to + i) v 0 (omega (arith, m .same-length)) ∙ e)
     | hi a ↦ getD-set-other w′ (to + i) (to + j) v 0 (λ z. omega arith) ∙ m .same j a
   ];
 }
 
--- A term stands where its bytes were moved.
-pub stands-moved : {s w w′ : List ℕ} {p e to : ℕ} {K : Term} → Moved s w w′ p (e - p) to → to + (e - p) ≤ length w → Stands s p e K → Stands w′ to (to + (e - p)) K
-stands-moved {s} {w} {w′} {p} {e} {to} {K} m l h = record {
-  rest = drop (e - p) (drop to w′);
-  bytes = sym (take-append-drop (e - p) (drop to w′)) ∙ ap (_++ drop (e - p) (drop to w′)) (part ∙ stands-taken h);
+-- A term stands where its bytes stand.
+pub stands-same : {s w : List ℕ} {p e to : ℕ} {K : Term} → ((i : ℕ) → i < e - p → getD w (to + i) 0 ≡ getD s (p + i) 0) → to + (e - p) ≤ length w → Stands s p e K → Stands w to (to + (e - p)) K
+stands-same {s} {w} {p} {e} {to} {K} m l h = record {
+  rest = drop (e - p) (drop to w);
+  bytes = sym (take-append-drop (e - p) (drop to w)) ∙ ap (_++ drop (e - p) (drop to w)) (part ∙ stands-taken h);
   coded = h .coded;
   place = omega (arith, h .place);
 }
@@ -98,22 +107,29 @@ stands-moved {s} {w} {w′} {p} {e} {to} {K} m l h = record {
     at : (x : List ℕ) (j i : ℕ) → i < e - p → getD (take (e - p) (drop j x)) i 0 ≡ getD x (j + i) 0
     at x j i f = getD-take (e - p) (drop j x) i 0 f ∙ getD-drop j x i 0
 
-    high : to + (e - p) ≤ length w′
-    high = omega (arith, m .same-length)
-
     low : p + (e - p) ≤ length s
     low = omega (arith, stands-end h, stands-start h)
 
-    part : take (e - p) (drop to w′) ≡ take (e - p) (drop p s)
-    part = ext-getD 0 (take (e - p) (drop to w′)) (take (e - p) (drop p s)) (cut w′ to high ∙ sym (cut s p low))
-        (λ i f. let n : i < e - p = rw (cut w′ to high) at f in at w′ to i n ∙ m .same i n ∙ sym (at s p i n))
+    part : take (e - p) (drop to w) ≡ take (e - p) (drop p s)
+    part = ext-getD 0 (take (e - p) (drop to w)) (take (e - p) (drop p s)) (cut w to l ∙ sym (cut s p low))
+        (λ i f. let n : i < e - p = rw (cut w to l) at f in at w to i n ∙ m i n ∙ sym (at s p i n))
 
--- A store above what is moved makes no difference.
-pub moved-mark : (b : Bool) (t w : List ℕ) (i v : ℕ) {w₁ : List ℕ} {p n to : ℕ} → (b ≡ false → p + n ≤ i) → Moved (cond b t (set w i v)) (set w i v) w₁ p n to → Moved (cond b t w) (set w i v) w₁ p n to
+stands-moved : {s w w′ : List ℕ} {p e to : ℕ} {K : Term} → Moved s w w′ p (e - p) to → to + (e - p) ≤ length w → Stands s p e K → Stands w′ to (to + (e - p)) K
+stands-moved m l h = stands-same (m .same) (omega (arith, m .same-length)) h
+
+-- A store beside what is moved makes no difference.
+pub moved-mark : (b : Bool) (t w : List ℕ) (i v : ℕ) {w₁ : List ℕ} {p n to : ℕ} → (b ≡ false → (p + n ≤ i) ⊎ (i < p)) → Moved (cond b t (set w i v)) (set w i v) w₁ p n to → Moved (cond b t w) (set w i v) w₁ p n to
 moved-mark true t w i v h m = m
-moved-mark false t w i v {p = p} h m = let l = h refl in record { same-length = m .same-length; below = m .below; same = λ j g. m .same j g ∙ getD-set-other w i (p + j) v 0 (λ z. omega arith) }
+moved-mark false t w i v {p = p} h m = record { same-length = m .same-length; below = m .below; above = m .above; same = λ j g. m .same j g ∙ getD-set-other w i (p + j) v 0 (λ z. ⊎-elim (λ a. omega arith) (λ a. omega arith) (h refl)) }
 
 -- ---- A mark and a term written.
+-- what is behind a term that is lifted in place
+after-same : (n c : ℕ) {w w′ : List ℕ} {from e : ℕ} {t : Term} → Replaced (lift n c) w w′ from e → Stands w from e t → {end : ℕ} → Agree w w′ e end
+after-same n c {w} {w′} {from} {e} {t} r h = record {
+  same = λ i f g. let q : e + (i - e) ≡ i = omega arith in
+      ap (λ j. getD w′ j 0) (sym q) ∙ sym (getD-drop e w′ (i - e) 0) ∙ ap (λ l. getD l (i - e) 0) (ap (drop e) (r .bytes t h) ∙ drop-sets (encode (lift n c t)) w from e (omega (arith, length-encode (lift n c t), size-lift n c t, h .place))) ∙ getD-drop e w (i - e) 0 ∙ ap (λ j. getD w j 0) q;
+}
+
 module _ (mark : ℕ) {p e n c k to : ℕ} {s w : List ℕ} (x : Writable s w p e n c k to) where
   pub whole : (p ≤ e) × (e ≤ length s) × (to + 1 + (e - p) ≤ longestState) × (p < e)
   whole = (omega (arith, x .stands .place), stands-end (x .stands), omega (arith, x .stands .place, x .room), stands-start (x .stands))
@@ -145,11 +161,15 @@ module _ (mark : ℕ) {p e n c k to : ℕ} {s w : List ℕ} (x : Writable s w p 
         front = agree-trans (agree-take (to + 1) (before-same r copied (to + 1) (omega arith)))
             (agree-take (to + 1) (before-same q once (to + 1) (omega arith)))
 
+        back : Agree w₁ w₃ (to + 1 + (e - p)) longestState
+        back = agree-trans (after-same n c r copied) (after-same k 0 q once)
+
         pub puts : Puts mark s w w₃ p e n c k to (to + 1 + (e - p))
         puts = record {
           all = λ K h. rw (stands-unique h (x .stands) .0) (record {
             work = q .same-length ∙ r .same-length ∙ copied-length;
             below = agree-trans (agree-trans (agree-set w to mark (omega arith)) (agree-part (m .below) (omega arith) (omega arith))) (agree-part front (omega arith) (omega arith));
+            above = agree-trans (agree-below w to mark (omega arith)) (agree-trans (m .above) back);
             marked = front .same to (omega arith) (omega arith) ∙ m .below .same to (omega arith) (omega arith) ∙ getD-set-same w to mark 0 (omega (arith, x .work, whole .2));
             stands = rw (← add-one to) twice;
           });
@@ -173,6 +193,7 @@ module _ (mark : ℕ) {p e n c k to : ℕ} {s w : List ℕ} (x : Writable s w p 
     one-moved = record {
       same-length = length-set (set w to mark) (to + 1) b;
       below = agree-set (set w to mark) (to + 1) b (omega arith);
+      above = agree-below (set w to mark) (to + 1) b (omega arith);
       same = λ i g. let q : to + 1 + i ≡ to + 1 = omega arith in let y : p ≡ p + i = omega arith in
           ap (λ j. getD (set (set w to mark) (to + 1) b) j 0) q ∙ there b ∙ qb ∙ ap (λ j. getD s j 0) y;
     }
@@ -186,6 +207,14 @@ module _ (mark : ℕ) {p e n c k to : ℕ} {s w : List ℕ} (x : Writable s w p 
 
       pub one-puts : {b₂ : ℕ} → Raised k 0 b₁ b₂ → Puts mark s w (set (set w to mark) (to + 1) b₂) p e n c k to (to + 1 + (e - p))
       one-puts {b₂} g = puts one-moved one-first (rw (set-set (set w to mark) (to + 1) b₁ b₂) at (one-lifted k 0 (once one-moved one-first) (omega arith) {r = b₂} (rw (there b₁) g)))
+
+-- ---- Old and new place apart.
+module _ {p e to : ℕ} (l : p ≤ e) where
+  pub apart-copy : (e ≤ to) ⊎ (to + 1 + (e - p) ≤ p) → (p + (e - p) ≤ to + 1) ⊎ (to + 1 + (e - p) ≤ p)
+  apart-copy = ⊎-elim (λ a. inl (omega arith)) (λ a. inr a)
+
+  pub apart-mark : (e ≤ to) ⊎ (to + 1 + (e - p) ≤ p) → (p + (e - p) ≤ to) ⊎ (to < p)
+  apart-mark = ⊎-elim (λ a. inl (omega arith)) (λ a. inr (omega arith))
 
 -- ---- From the term, or from the work array.
 module _ (t w : List ℕ) where

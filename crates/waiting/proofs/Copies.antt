@@ -1,6 +1,6 @@
 -- Copies lifted byte by byte.
 -- Assumes nothing.
-use Prim.Native.Nat.{ℕ, suc, _+_, _-_, _≤_, _<_, min}
+use Prim.Native.Nat.{ℕ, suc, _+_, _-_, _≤_, _<_}
 use mathlib.Core.Path.{_≡_, refl, ap, sym, _∙_}
 use mathlib.Core.List.{List, _∷_}
 use native.Mathlib.Omega.{arith}
@@ -40,20 +40,6 @@ module _ (n low d b : ℕ) {x y : ℕ} (f : (b < 254 → x ≡ b) × (254 ≤ b 
   pub raised-not : y ≤ d → Raised n (low + d) b b
   raised-not l = record { index = λ h. sym (index-low n (low + d) b (omega (arith, f .0 h))); operator = λ h. refl }
 
--- A number above 255 counts as 255 does.
-module _ (n c d b : ℕ) (l : b < 254 → liftIndex n (c + d) b < 256) where
-  index-same : b < 254 → liftIndex (min n 255) (min c 255 + d) b ≡ liftIndex n (c + d) b
-  index-same h = elim (cmp b (c + d)) [
-    | lo a ↦ index-low (min n 255) (min c 255 + d) b (omega arith) ∙ sym (index-low n (c + d) b a)
-    | hi a ↦ let q = index-high n (c + d) b a in let r : b + min n 255 ≡ b + n = omega (arith, q, l h) in index-high (min n 255) (min c 255 + d) b (omega arith) ∙ r ∙ sym q
-  ]
-
-  raised-fits : b < 254 → liftIndex (min n 255) (min c 255 + d) b < 256
-  raised-fits h = rw (index-same h) (l h)
-
-  raised-same : {r : ℕ} → Raised (min n 255) (min c 255 + d) b r → Raised n (c + d) b r
-  raised-same x = record { index = λ h. x .index h ∙ index-same h; operator = x .operator }
-
 module _ (n d b : ℕ) where
   index-fits : liftByte n d b < 256 → b < 254 → liftIndex n d b < 256
   unfolding liftByte
@@ -64,12 +50,12 @@ module _ (n d b : ℕ) where
   raised-byte x = elim (cmp 254 b) [ lo a ↦ x .operator a ∙ rw (le-ltb b 254 a) | hi a ↦ x .index a ∙ rw (lt-ltb b 254 a) ]
 
 -- ---- A term of one byte.
-module _ (n c b : ℕ) (l : b < 254 → liftIndex n c b < 256) {by low : ℕ} (qn : by ≡ min n 255) (qc : low ≡ min c 255) where
-  pub one-fits : b < 254 → liftIndex by (low + 0) b < 256
-  one-fits h = rw (qn, qc) (raised-fits n c 0 b (λ h. rw (add-zero c) (l h)) h)
+module _ (n c b : ℕ) {by low : ℕ} (qn : by ≡ n) (qc : low ≡ c) where
+  pub one-fits : (b < 254 → liftIndex n c b < 256) → b < 254 → liftIndex by (low + 0) b < 256
+  one-fits l h = rw (qn, qc, add-zero c) (l h)
 
   pub one-raised : {r : ℕ} → Raised by (low + 0) b r → Raised n c b r
-  one-raised x = rw (add-zero c) at (raised-same n c 0 b (λ h. rw (add-zero c) (l h)) (rw (qn, qc) at x))
+  one-raised x = rw (qn, qc, add-zero c) at x
 
 module _ {s : List ℕ} {p e : ℕ} {X : Term} (n c : ℕ) (h : Stands s p e X) (q : e ≡ p + 1) where
   pub one-index : Coded (lift n c X) → getD s p 0 < 254 → liftIndex n c (getD s p 0) < 256
@@ -129,16 +115,16 @@ module _ {w₀ depths : List ℕ} {from e o n c : ℕ} (x : Copied w₀ depths f
       byte-fits : liftByte n (c + depthIn (x .term) i) (getD w (from + i) 0) < 256
       byte-fits = rw byte-next at (encode-bytes (x .coded) i)
 
-      module _ {by low : ℕ} (qn : by ≡ min n 255) (qc : low ≡ min c 255) where
-        known : low + (getD depths (o + i) 0 - getD depths o 0) ≡ min c 255 + depthIn (x .term) i
+      module _ {by low : ℕ} (qn : by ≡ n) (qc : low ≡ c) where
+        known : low + (getD depths (o + i) 0 - getD depths o 0) ≡ c + depthIn (x .term) i
         known = omega (arith, depth-here)
 
         pub lifting-fits : getD w (from + i) 0 < 254 → liftIndex by (low + (getD depths (o + i) 0 - getD depths o 0)) (getD w (from + i) 0) < 256
-        lifting-fits h = rw (known, qn) (raised-fits n c (depthIn (x .term) i) (getD w (from + i) 0) (index-fits n (c + depthIn (x .term) i) (getD w (from + i) 0) byte-fits) h)
+        lifting-fits h = rw (known, qn) (index-fits n (c + depthIn (x .term) i) (getD w (from + i) 0) byte-fits h)
 
         pub lifting-next : {r : ℕ} → Raised by (low + (getD depths (o + i) 0 - getD depths o 0)) (getD w (from + i) 0) r → Lifting w₀ (set w (from + i) r) from (i + 1) n c (x .term)
         lifting-next {r} z =
-            let q : r ≡ liftByte n (c + depthIn (x .term) i) (getD w (from + i) 0) = raised-byte n (c + depthIn (x .term) i) (getD w (from + i) 0) (raised-same n c (depthIn (x .term) i) (getD w (from + i) 0) (index-fits n (c + depthIn (x .term) i) (getD w (from + i) 0) byte-fits) (rw (known, qn) at z)) in
+            let q : r ≡ liftByte n (c + depthIn (x .term) i) (getD w (from + i) 0) = raised-byte n (c + depthIn (x .term) i) (getD w (from + i) 0) (rw (known, qn) at z) in
             let next : drop i (encode (lift n c (x .term))) ≡ r ∷ drop (i + 1) (encode (lift n c (x .term))) = drop-cons (encode (lift n c (x .term))) i 0 (omega (arith, length-encode (lift n c (x .term)), size-lift n c (x .term), inner)) ∙ rw (byte-next, q, add-one i) in
             let y : suc (from + i) ≡ from + (i + 1) = omega arith in
             record {

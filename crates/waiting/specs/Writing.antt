@@ -1,21 +1,23 @@
 -- Terms written into the work array.
 -- Assumes nothing.
-use Prim.Native.Nat.{ℕ, suc, _+_, _≤_, _<_}
+use Prim.Native.Nat.{ℕ, suc, _+_, _-_, _≤_, _<_}
 use mathlib.Core.Path.{_≡_}
+use mathlib.Core.Bool.{Bool, false, cond}
+use mathlib.Core.Logic.{_⊎_}
 use mathlib.Core.List.{List}
 use lib.ListN.{length, getD}
 use Rattle.calculus.specs.Terms.{Term, size, lift, liftIndex}
-use Rattle.code.specs.Limits.{longestTerm, longestState}
+use Rattle.code.specs.Limits.{longestState}
 use Rattle.code.specs.Code.{Coded}
 use Rattle.code.specs.Claims.{Stands}
-use Rattle.code.specs.Scope.{scope}
 use Rattle.frames.specs.Stored.{Agree}
 use Rattle.texts.specs.Texts.{depthIn, Depths, Origin}
 
--- n bytes of s from p stand in w′ from `to`; below, w′ is w.
+-- n bytes of s from p stand in w′ from `to`; below and above, w′ is w.
 pub record Moved (s w w′ : List ℕ) (p n to : ℕ) : Type 0 where
   pub same-length : length w′ ≡ length w
   pub below : Agree w w′ 0 to
+  pub above : Agree w w′ (to + n) longestState
   pub same : (i : ℕ) → i < n → getD w′ (to + i) 0 ≡ getD s (p + i) 0
 
 -- r is the byte b with c abstractors in scope or cut off, lifted by n.
@@ -42,6 +44,7 @@ pub record Placed (t depths s : List ℕ) (p e o : ℕ) : Type 0 where
 pub record WrittenTerm (mark : ℕ) (w w′ : List ℕ) (to e : ℕ) (L : Term) : Type 0 where
   pub work : length w′ ≡ longestState
   pub below : Agree w w′ 0 to
+  pub above : Agree w w′ e longestState
   pub marked : getD w′ to 0 ≡ mark
   pub stands : Stands w′ (suc to) e L
 
@@ -50,11 +53,13 @@ pub record Writable (s w : List ℕ) (p e n c m to : ℕ) : Type 0 where
   pub work : length w ≡ longestState
   pub raw : Term
   pub stands : Stands s p e raw
-  pub short : size raw ≤ longestTerm
-  pub cut : c + scope raw < longestTerm
   pub first : Coded (lift n c raw)
   pub second : Coded (lift m 0 (lift n c raw))
   pub room : to + suc (size raw) ≤ longestState
+
+-- What is asked to write it from t or from the work array w, of which it is a part that lies apart; it is a copy of the text of t at o.
+abbrev pub PutAsked : (t depths w : List ℕ) (in-term : Bool) (p e o to n c m : ℕ) → Type 0
+PutAsked t depths w in-term p e o to n c m = (n < 256) × (c < 256) × (m < 256) × (in-term ≡ false → (e ≤ to) ⊎ (to + 1 + (e - p) ≤ p)) × Writable (cond in-term t w) w p e n c m to × Placed t depths (cond in-term t w) p e o
 
 pub record Puts (mark : ℕ) (s w w′ : List ℕ) (p e n c m to r : ℕ) : Type 0 where
   pub all : (K : Term) → Stands s p e K → WrittenTerm mark w w′ to r (lift m 0 (lift n c K))

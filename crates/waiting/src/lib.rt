@@ -1,17 +1,19 @@
 // The waiting applicators: six numbers for each in one lent array, and writing a term where a frame ends.
 ghost use mathlib.Core.Path.{_≡_};
 ghost use mathlib.Core.Bool.{false, cond};
-ghost use Prim.Native.Nat.{_+_, _-_, _*_, _≤_, _<_, min};
+ghost use mathlib.Core.Logic.{_⊎_};
+ghost use Prim.Native.Nat.{_+_, _-_, _*_, _≤_, _<_};
 ghost use lib.ListN.{length, getD};
 ghost use Rattle.calculus.specs.Terms.{lift, liftIndex};
 ghost use Rattle.code.specs.Limits.{longestState};
 ghost use Rattle.indices.specs.Passes.{Replaced};
-ghost use Rattle.waiting.specs.Waiting.{slotOf, SmallSlot, Noted};
-ghost use Rattle.waiting.specs.Writing.{Moved, Raised, Copied, Placed, Writable, Puts};
+ghost use Rattle.waiting.specs.Waiting.{slotOf, lowOf, SmallSlot, Noted};
+ghost use Rattle.waiting.specs.Writing.{Moved, Raised, Copied, PutAsked, Puts};
+use code::numbers::LONGEST_STATE;
 use frames::Work;
 
-// A waiting applicator: its place in the term or, for a copy, in the text that it is a copy of; where its bytes stand; the frame's
-// depth when it was met; the lift that its K is seen through; and the scope of what waited before it.
+// A waiting applicator: its place in the term or, for a copy, in the text that it is a copy of; where its bytes stand in the work array;
+// the frame's depth when it was met; the lift that its K is seen through; and the scope of what waited before it.
 pub struct Slot {
     pub place: usize,
     pub at: usize,
@@ -41,6 +43,17 @@ pub fn slot_at(list: &[u16], j: usize) -> Slot
     }
 }
 
+// Where the bytes of the first j that wait begin: they stand at the end of the work array, the first one last.
+pub fn low(list: &[u16], j: usize) -> usize
+    requires { ⌜ 6 * j ≤ length (now list) ⌝ }
+    ensures { λ r. ⌜ r ≡ lowOf (now (list .entry)) j ⌝ }
+{
+    if j == 0 {
+        return LONGEST_STATE;
+    }
+    wide16(list[6 * (j - 1) + 1])
+}
+
 pub fn store_slot(list: &mut [u16], j: usize, v: Slot)
     requires { ⌜ (6 * j + 6 ≤ length (now list)) × SmallSlot v ⌝ }
     ensures { λ r. ⌜ Noted (now (list .entry)) (now (list .exit)) j v ⌝ }
@@ -53,7 +66,8 @@ pub fn store_slot(list: &mut [u16], j: usize, v: Slot)
     list[6 * j + 5] = v.scope as u16;
 }
 
-fn copy_from(t: &[u8], p: usize, n: usize, work: &mut Work, to: usize)
+// n bytes of t from p on.
+pub fn copy_from(t: &[u8], p: usize, n: usize, work: &mut Work, to: usize)
     requires { ⌜ (p + n ≤ length (now t)) × (to + n ≤ longestState) × (length (now work) ≡ longestState) ⌝ }
     ensures { λ r. ⌜ Moved (now (t .entry)) (now (work .entry)) (now (work .exit)) p n to ⌝ }
 {
@@ -64,8 +78,9 @@ fn copy_from(t: &[u8], p: usize, n: usize, work: &mut Work, to: usize)
     }
 }
 
+// The same of the work array itself, where old and new place are apart.
 fn copy_in(work: &mut Work, p: usize, n: usize, to: usize)
-    requires { ⌜ (p + n ≤ to) × (to + n ≤ longestState) × (length (now work) ≡ longestState) ⌝ }
+    requires { ⌜ ((p + n ≤ to) ⊎ (to + n ≤ p)) × (p + n ≤ longestState) × (to + n ≤ longestState) × (length (now work) ≡ longestState) ⌝ }
     ensures { λ r. ⌜ Moved (now (work .entry)) (now (work .entry)) (now (work .exit)) p n to ⌝ }
 {
     let mut i = 0;
@@ -75,11 +90,11 @@ fn copy_in(work: &mut Work, p: usize, n: usize, to: usize)
     }
 }
 
-// A lift by more than 255, or above more, does the same to a byte as by 255, or above it.
-fn byte_at_most(n: usize) -> u8
-    ensures { λ r. ⌜ r ≡ min n 255 ⌝ }
+fn byte(n: usize) -> u8
+    requires { ⌜ n < 256 ⌝ }
+    ensures { λ r. ⌜ r ≡ n ⌝ }
 {
-    if n < 256 { n as u8 } else { 255 }
+    n as u8
 }
 
 // The index that a byte is: 0, which no lift raises, for an applicator or an abstractor.
@@ -106,22 +121,22 @@ fn raised(b: u8, d: u8, n: u8, low: u8) -> u8
 
 // The byte of a term that is one byte, lifted by n above c.
 fn lifted_byte(b: u8, n: usize, c: usize) -> u8
-    requires { ⌜ (b < 254 → liftIndex n c b < 256) ⌝ }
+    requires { ⌜ (n < 256) × (c < 256) × (b < 254 → liftIndex n c b < 256) ⌝ }
     ensures { λ r. ⌜ Raised n c b r ⌝ }
 {
-    raised(b, 0, byte_at_most(n), byte_at_most(c))
+    raised(b, 0, byte(n), byte(c))
 }
 
 // The term that stands in work from `from` up to `to`, a copy of one whose depths stand from o on, is lifted by n above c.
 fn lift_copy(work: &mut Work, from: usize, to: usize, depths: &[u8], o: usize, n: usize, c: usize)
-    requires { ⌜ Copied (now work) (now depths) from to o n c ⌝ }
+    requires { ⌜ (n < 256) × (c < 256) × Copied (now work) (now depths) from to o n c ⌝ }
     ensures { λ r. ⌜ Replaced (lift n c) (now (work .entry)) (now (work .exit)) from to ⌝ }
 {
     if n == 0 {
         return;
     }
-    let by = byte_at_most(n);
-    let low = byte_at_most(c);
+    let by = byte(n);
+    let low = byte(c);
     let base = depths[o];
     let size = to - from;
     let mut i = 0;
@@ -141,7 +156,7 @@ fn byte_in(t: &[u8], work: &Work, in_term: bool, p: usize) -> u8
 
 // n bytes from p on, of the term or of the work array.
 fn copy(t: &[u8], work: &mut Work, in_term: bool, p: usize, n: usize, to: usize)
-    requires { ⌜ (p + n ≤ length (cond in_term (now t) (now work))) × (in_term ≡ false → p + n ≤ to) × (to + n ≤ longestState) × (length (now work) ≡ longestState) ⌝ }
+    requires { ⌜ (p + n ≤ length (cond in_term (now t) (now work))) × (in_term ≡ false → (p + n ≤ to) ⊎ (to + n ≤ p)) × (to + n ≤ longestState) × (length (now work) ≡ longestState) ⌝ }
     ensures { λ r. ⌜ Moved (cond in_term (now (t .entry)) (now (work .entry))) (now (work .entry)) (now (work .exit)) p n to ⌝ }
 {
     if in_term {
@@ -166,7 +181,7 @@ pub fn put(
     c: usize,
     m: usize,
 ) -> usize
-    requires { ⌜ (c < 65536) × (in_term ≡ false → e ≤ to) × Writable (cond in_term (now t) (now work)) (now work) p e n c m to × Placed (now t) (now depths) (cond in_term (now t) (now work)) p e o ⌝ }
+    requires { ⌜ PutAsked (now t) (now depths) (now work) in_term p e o to n c m ⌝ }
     ensures { λ r. ⌜ Puts mark (cond in_term (now (t .entry)) (now (work .entry))) (now (work .entry)) (now (work .exit)) p e n c m to r ⌝ }
 {
     let size = e - p;

@@ -27,32 +27,12 @@ use Rattle.texts.proofs.Origins.{origin-own}
 use Rattle.verdict.specs.Bounds.{waitingSize, waitingScope}
 use Rattle.verdict.specs.Verdict.{Ground, not-reached, number, placeOf, Progress, Run, passed, stopped, finish, checkTermBy, checkTerm}
 use Rattle.verdict.proofs.Promises.{never-not-reached}
-use Rattle.waiting.specs.Waiting.{termsOf, places, queue-none}
+use Rattle.waiting.specs.Waiting.{termsOf, places, lowOf, queue-none}
 use Rattle.walk.specs.State.{Text, textOf, Arrays, sound-empty, no-notes, stateOf, agendaOf, StateAt, Stated}
-use Rattle.walk.specs.Contracts.{listFull, longestList, Halts, halts-waiting, halts-outgrown, halts-compared, Says, says-passed, says-stopped, says-never, says-full, Checks, Known, Walkable, Answers, answer-passed, answer-stopped, WalkAnswer, WholeAnswer, whole-full, whole-answer}
+use Rattle.walk.specs.Contracts.{startOf, listFull, longestList, Halts, halts-waiting, halts-outgrown, halts-compared, Says, says-passed, says-stopped, says-never, says-full, Checks, Known, Walkable, Answers, answer-passed, answer-stopped, WalkAnswer, WholeAnswer, whole-full, whole-answer}
 use Rattle.walk.specs.declared.WalkState.{WalkState}
 use Rattle.walk.specs.declared.Walked.{Walked}
 use Rattle.walk.proofs.States.{no-confusion}
-
--- where the walk begins
-abbrev pub firstState : ℕ → WalkState
-firstState at = record {
-  own = true;
-  checked = false;
-  «in_term» = true;
-  place = 0;
-  from = 0;
-  origin = 0;
-  shift = 0;
-  cut = 0;
-  bottom = 0;
-  middle = 0;
-  top = 0;
-  size = 0;
-  scope = 0;
-  next = at;
-  comparisons = 0;
-}
 
 stands-whole : {t : List ℕ} {T : Term} → encode T ≡ t → Coded T → Stands t 0 (length t) T
 stands-whole {T = T} e c = let n : length (encode T) ≡ size T = length-encode T in rw (← e, n) (stands-self c)
@@ -80,24 +60,27 @@ module _ {file t : List ℕ} {at : ℕ} (g : Walkable file t at) where
 
   module _ {m : Arrays} {f : FrameRecord} (e : EmptyRecord f) (lw : length (m .work) ≡ longestState) (ld : length (m .domains) ≡ mostAbstractors) (lo : length (m .origins) ≡ mostAbstractors) where
     begin : (T : Term) (gs : List GroupAt) → encode T ≡ t → Closed 0 T → scope T ≤ mostAbstractors → Groups file at gs
-        → StateAt (textOf file t) m f (firstState at) ε [] [] T (record { left = map (λ g. g .group) gs; comparisons = 0; turns = 0 })
-    unfolding waitingSize waitingScope termsOf
+        → StateAt (textOf file t) m f (startOf 0 0 at 0) ε [] [] T (record { left = map (λ g. g .group) gs; comparisons = 0; turns = 0 })
+    unfolding waitingSize waitingScope termsOf lowOf
     begin T gs b c d k = let s = stands-whole b (closed-coded c (omega arith)) in record {
-      term-short = whole-term .short;
-      stored = e .holds (m .work) lw;
-      sound = sound-empty;
-      notes = no-notes (e .no-entries);
-      domains-long = ld;
-      origins-long = lo;
-      waits = queue-none refl;
-      copies = queue-none refl;
-      listed = omega arith;
-      few-waiting = omega arith;
-      place-bound = stands-start s;
-      size-is = refl;
-      scope-is = refl;
-      size-bound = omega arith;
-      scope-bound = omega arith;
+      held = record {
+        term-short = whole-term .short;
+        stored = e .holds (m .work) lw;
+        sound = sound-empty;
+        notes = no-notes (e .no-entries);
+        domains-long = ld;
+        origins-long = lo;
+        waits = queue-none refl;
+        kept = λ j g h. absurd (omega arith);
+        copies = queue-none refl;
+        listed = omega arith;
+        few-waiting = omega arith;
+        place-bound = stands-start s;
+        size-is = refl;
+        scope-is = refl;
+        size-bound = omega arith;
+        scope-bound = omega arith;
+      };
       text = T;
       end = length t;
       stands = s;
@@ -107,16 +90,16 @@ module _ {file t : List ℕ} {at : ℕ} (g : Walkable file t at) where
       shift-bound = omega arith;
       cut-bound = omega arith;
       closed = rw (e .no-entries) c;
-      own-text = λ i. record { in-term = refl; at-place = refl; itself = refl; unlifted = refl; no-copies = refl; tops = refl };
+      own-text = λ i. record { in-term = refl; at-place = refl; itself = refl; unlifted = refl; no-copies = refl; tops = refl; low = omega arith; packed = omega (arith, e .no-bytes) };
       met = λ i. no-confusion (sym i);
       inner = λ i. no-confusion i;
       reached = record { groups = gs; stand = k; left = refl; counted = refl; few = omega arith; file-bound = g .file-bound };
     }
 
-    pub begun : Stated (textOf file t) m f (firstState at)
+    pub begun : Stated (textOf file t) m f (startOf 0 0 at 0)
     begun = record { frame = ε; ww = []; qq = []; body = g .term; progress = _; at = begin (g .term) (g .groups) (g .bytes) (g .closed) (g .shallow) (g .stand) }
 
-    pub answered : {m′ : Arrays} {a b : List ℕ} {r : Walked} → Checks (textOf file t) m m′ f (firstState at) a b r → WholeAnswer file t at (length (m .list)) a b r
+    pub answered : {m′ : Arrays} {a b : List ℕ} {r : Walked} → Checks (textOf file t) m m′ f (startOf 0 0 at 0) a b r → WholeAnswer file t at (length (m .list)) a b r
     unfolding agendaOf stateOf termsOf places checkTermBy
     answered {a = a} {b = b} {r = r} k = decide (says (g .term) (g .groups) (g .bytes) (g .closed) (g .shallow) (g .stand)) (reached-term (g .term) (g .closed) (g .groups))
       where

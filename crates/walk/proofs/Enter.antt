@@ -3,6 +3,7 @@
 use Prim.Native.Nat.{ℕ, zero, suc, _+_, _-_, _*_, _≤_, _<_, max}
 use mathlib.Core.Path.{_≡_, refl, ap, sym, _∙_}
 use mathlib.Core.Bool.{Bool, true, false, cond}
+use mathlib.Core.Logic.{_⊎_, inl, inr, ⊎-elim}
 use mathlib.Core.List.{List, [], _∷_, map}
 use native.Mathlib.Omega.{arith}
 use native.Mathlib.Numerals.{add-one}
@@ -29,11 +30,11 @@ use Rattle.texts.specs.Texts.{Origin}
 use Rattle.texts.proofs.Origins.{origin-abs, origin-lift}
 use Rattle.verdict.specs.Bounds.{waitingSize, waitingScope}
 use Rattle.verdict.specs.Verdict.{same-at, Progress, Run, passed, stopped, andThen, finish}
-use Rattle.waiting.specs.Waiting.{Waiting, termsOf, liftWaiting, Part, slotOf, Waits, Queue}
-use Rattle.waiting.specs.Writing.{Placed, WrittenTerm, Writable, Puts}
+use Rattle.waiting.specs.Waiting.{Waiting, termsOf, liftWaiting, Part, slotOf, lowOf, Waits, Queue, KeptSlot}
+use Rattle.waiting.specs.Writing.{WrittenTerm, PutAsked, Puts}
 use Rattle.waiting.specs.declared.Slot.{Slot}
 use Rattle.waiting.proofs.Texts.{positive, Two, text-abs}
-use Rattle.waiting.proofs.Queues.{size-lifted, scope-lifted, queue-empty, queue-base, Last, queue-last, queue-deeper, queue-agree, queue-before, raw-size, now-part, waits-writable, waits-written}
+use Rattle.waiting.proofs.Queues.{size-lifted, scope-lifted, queue-empty, queue-base, Last, queue-last, queue-deeper, queue-agree, queue-before, raw-size, now-part, waits-writable, waits-written, seen, waits-at, descends, kept-through}
 use Rattle.walk.specs.State.{Text, Arrays, Sound, sound-single, sound-pair, Notes, Reached, stateOf, restOf, agendaOf, OwnText, StateAt}
 use Rattle.walk.specs.Contracts.{answering, going, pastOf, DepthsKnown, Halts, halts-compared, Says, says-stopped, Becomes, becomes-answer, becomes-state, Keeps, Onward}
 use Rattle.walk.specs.declared.WalkState.{WalkState}
@@ -41,15 +42,11 @@ use Rattle.walk.specs.declared.Turned.{Turned}
 use Rattle.walk.proofs.Rules.{rest-alone, rest-waiting, rest-copied}
 use Rattle.walk.proofs.Measures.{fewer-abs}
 use Rattle.walk.proofs.Waits.{no-queue}
-use Rattle.walk.proofs.States.{no-confusion, sound-closed, notes-push, Room, body-size, body-scope, origin-bound}
+use Rattle.walk.proofs.States.{no-confusion, sound-closed, entryArrays, notes-push, Room, body-size, body-scope, origin-bound}
 
 -- the next group is inside the file
 pub reached-inside : {file : List ℕ} {next count : ℕ} {p : Progress} → Reached file next count p → next ≤ longestFile
 reached-inside r = omega (arith, r .file-bound, room-left (r .stand))
-
--- the arrays with one more entry
-abbrev pub entryArrays : Arrays → List ℕ → (n at origin : ℕ) → Arrays
-entryArrays m w n at origin = record { work = w; list = m .list; domains = set (m .domains) n at; origins = set (m .origins) n origin }
 
 origin-is : {t : List ℕ} {o : ℕ} {X Y : Term} → X ≡ Y → Origin t o X → Origin t o Y
 origin-is e h = rw (← e) h
@@ -71,7 +68,7 @@ none-lifted e = rw e
 fewer-is : (b : Bool) (R : Frame) (W W′ Q Q′ : List Waiting) (e : Entry) (B U X : Term) → B ≡ abs U X → domain e ≡ U → suc (statesOf (stateOf b (R ▹ e) W′ Q′ X)) ≤ statesOf (stateOf b R W Q B)
 fewer-is b R W W′ Q Q′ e B U X h g = rw (h, ← g) (fewer-abs b R W W′ Q Q′ e X)
 
-queue-to : {t s q : List ℕ} {d limit base before top top′ : ℕ} {W : List Waiting} → top ≡ top′ → Queue t s q d limit base before top W → Queue t s q d limit base before top′ W
+queue-to : {y : Bool} {t s q : List ℕ} {d limit base before top top′ : ℕ} {W : List Waiting} → top ≡ top′ → Queue y t s q d limit base before top W → Queue y t s q d limit base before top′ W
 queue-to e x = rw (← e) x
 
 -- the runs of what is left
@@ -87,6 +84,18 @@ run-copied b place next R W {Q′ = Q′} {U = U} {X = X} {w = w} p c e q = rw (
 run-waiting : (b : Bool) (place : ℕ) {next : ℕ} (R : Frame) {W W′ Q : List Waiting} {B U X : Term} {w : Waiting} (p : Progress) → B ≡ abs U X → W ≡ w ∷ W′ → Q ≡ [] → cond b (suc place + size U) place ≡ next
     → finish (restOf b place R W Q B) p ≡ andThen (finish (same-at (w .place) R (w .term) U ∷ []) p) (finish (agendaOf false b next (R ▹ pair (w .term) U) (liftWaiting W′) [] X))
 run-waiting b place R {W′ = W′} {U = U} {X = X} {w = w} p e h q g = rw (e, h, q, ← g) (rest-waiting b place R w W′ U X p)
+
+low-last : (q : List ℕ) (j : ℕ) → 1 ≤ j → lowOf q j ≡ slotOf q (j - 1) .at
+unfolding lowOf
+low-last q zero h = absurd (omega arith)
+low-last q (suc j) h = ap (λ i. slotOf q i .at) (omega arith)
+
+-- The waiting applicator w, as v says, whose K stands in the term or in the work array, and which can be entered with a U of n bytes.
+pub record Taken (x : Text) (m : Arrays) (f : FrameRecord) (n : ℕ) (b : Bool) (v : Slot) (w : Waiting) : Type 0 where
+  pub limit : ℕ
+  pub slot : Waits (x .term) (cond b (x .term) (m .work)) (f .len) limit v w
+  pub fits : f .end + (suc (size (w .term)) + suc n) ≤ longestState
+  pub shallow : f .len + scope (w .term) ≤ mostAbstractors
 
 module _ {x : Text} {m : Arrays} {f : FrameRecord} {s : WalkState} {R : Frame} {W Q : List Waiting} {B : Term} {p : Progress} (z : StateAt x m f s R W Q B p) (o : Room f s B)
     (hi : 0xfe ≤ getD (cond (s .«in_term») (x .term) (m .work)) (s .from) 0) (no : getD (cond (s .«in_term») (x .term) (m .work)) (s .from) 0 ≡ 0xfe → ⊥) where
@@ -151,14 +160,14 @@ module _ {x : Text} {m : Arrays} {f : FrameRecord} {s : WalkState} {R : Frame} {
     past-bounds = (omega (arith, sizes, o .fits), by-source (s .«in_term») refl, omega (arith, origin-bound z))
       where
         by-source : (b : Bool) → s .«in_term» ≡ b → s .from < 65536
-        by-source true e = omega (arith, stands-start (rw e at (z .stands)), stands-end (rw e at (z .stands)), z .term-short)
-        by-source false e = omega (arith, stands-start (rw e at (z .stands)), stands-end (rw e at (z .stands)), z .stored .work)
+        by-source true e = omega (arith, stands-start (rw e at (z .stands)), stands-end (rw e at (z .stands)), z .held .term-short)
+        by-source false e = omega (arith, stands-start (rw e at (z .stands)), stands-end (rw e at (z .stands)), z .held .stored .work)
 
     -- U, where the bytes below the frame's end are as they were
     module _ {w₁ : List ℕ} (l : length w₁ ≡ longestState) (g : Agree (m .work) w₁ 0 (f .end)) where
       source-now : (b : Bool) → s .«in_term» ≡ b → {q e : ℕ} {X : Term} → e ≤ z .end → Stands (cond b (x .term) (m .work)) q e X → Stands (cond b (x .term) w₁) q e X
       source-now true i j h = h
-      source-now false i j h = stands-agree h (agree-part g (omega arith) (omega (arith, z .inside i))) (omega (arith, z .inside i, z .stored .inside))
+      source-now false i j h = stands-agree h (agree-part g (omega arith) (omega (arith, z .inside i))) (omega (arith, z .inside i, z .held .stored .inside))
 
       first-now : Stands (cond (s .«in_term») (x .term) w₁) (s .from + 1) (s .from + 1 + n) (two-abs .one)
       first-now = rw mid (source-now (s .«in_term») refl (omega (arith, stands-start (two-abs .second))) (two-abs .first))
@@ -166,25 +175,23 @@ module _ {x : Text} {m : Arrays} {f : FrameRecord} {s : WalkState} {R : Frame} {
       second-now : Stands (cond (s .«in_term») (x .term) w₁) (s .from + 1 + n) (z .end) (two-abs .two)
       second-now = rw mid (source-now (s .«in_term») refl (omega arith) (two-abs .second))
 
-      pub domain-placed : {depths : List ℕ} → DepthsKnown (x .term) depths → Placed (x .term) depths (cond (s .«in_term») (x .term) w₁) (s .from + 1) (s .from + 1 + n) (s .origin + 1)
-      domain-placed k = record { deep = k .deep; long = k .long; origin = λ X h. origin-is (stands-unique (first-now) h .0) (origins-abs .0) }
-
-      pub domain-writable : {to : ℕ} → f .end ≤ to → to + suc (size (two-abs .one)) ≤ longestState
-          → (s .cut < 65536) × (s .«in_term» ≡ false → s .from + 1 + n ≤ to) × Writable (cond (s .«in_term») (x .term) w₁) w₁ (s .from + 1) (s .from + 1 + n) (s .shift) (s .cut) 0 to
+      pub domain-writable : {to : ℕ} → f .end ≤ to → to + suc (size (two-abs .one)) ≤ longestState → {depths : List ℕ} → DepthsKnown (x .term) depths
+          → PutAsked (x .term) depths w₁ (s .«in_term») (s .from + 1) (s .from + 1 + n) (s .origin + 1) to (s .shift) (s .cut) 0
       unfolding taken
-      domain-writable {to} a r = (
-        omega (arith, z .cut-bound, z .stored .few),
-        (λ i. omega (arith, mid, stands-start (two-abs .second), z .inside i)),
+      domain-writable {to} a r k = (
+        omega (arith, z .shift-bound),
+        omega (arith, z .cut-bound, z .held .stored .few),
+        omega arith,
+        (λ i. inl (omega (arith, mid, stands-start (two-abs .second), z .inside i))),
         record {
           work = l;
           raw = two-abs .one;
           stands = first-now;
-          short = omega (arith, taken-part .short, taken-size);
-          cut = omega (arith, taken-part .shallow, scope-lift (s .shift) (s .cut) (two-abs .one), z .cut-bound, z .stored .few);
           first = closed-coded (taken-part .closed) (taken-part .shallow);
           second = rw (lift-zero 0 (lift (s .shift) (s .cut) (two-abs .one))) (closed-coded (taken-part .closed) (taken-part .shallow));
           room = r;
         },
+        record { deep = k .deep; long = k .long; origin = λ X h. origin-is (stands-unique (first-now) h .0) (origins-abs .0) },
       )
 
       pub domain-written : {w₂ : List ℕ} {to r : ℕ} → Puts 0xff (cond (s .«in_term») (x .term) w₁) w₁ w₂ (s .from + 1) (s .from + 1 + n) (s .shift) (s .cut) 0 to r → WrittenTerm 0xff w₁ w₂ to r taken
@@ -197,7 +204,7 @@ module _ {x : Text} {m : Arrays} {f : FrameRecord} {s : WalkState} {R : Frame} {
         let u = ap (λ k. cond k (x .term) (m .work)) (z .own-text i .in-term) in
         let v : Stands (x .term) (two-abs .mid) (z .end) (two-abs .two) = rw u at (two-abs .second) in
         omega (arith, mid, stands-start v, stands-end v)
-    place-now false i = z .place-bound
+    place-now false i = z .held .place-bound
 
     place-later : (b : Bool) → s .own ≡ b → s .place ≤ cond b (s .from + 1 + n) (s .place)
     place-later true i = omega (arith, z .own-text i .at-place)
@@ -206,31 +213,34 @@ module _ {x : Text} {m : Arrays} {f : FrameRecord} {s : WalkState} {R : Frame} {
     pub further : s .place ≤ cond (s .own) (s .from + 1 + n) (s .place)
     further = place-later (s .own) refl
 
-    entered : (t : Entry) {w₂ : List ℕ} {at b middle top total widest next comparisons : ℕ} {W′ Q′ : List Waiting} {q : Progress} → domain t ≡ taken → Sound (R ▹ t) → length w₂ ≡ longestState → Agree (m .work) w₂ 0 (f .end)
-        → EntryBytes w₂ (f .end) t b → Stands w₂ at b taken → Queue (x .term) (x .term) (m .list) (f .len) (length (x .term)) (s .bottom) 0 middle W′ → Queue (x .term) (m .work) (m .list) (f .len) (f .end) middle (waitingScope (termsOf W′)) top Q′
-        → middle ≤ s .middle → top ≤ s .top → (s .own ≡ true → (Q′ ≡ []) × (middle ≡ top)) → total ≡ waitingSize (termsOf W′) + waitingSize (termsOf Q′) → widest ≡ max (waitingScope (termsOf W′)) (waitingScope (termsOf Q′))
-        → total ≤ longestState → widest ≤ mostAbstractors → Reached (x .file) next comparisons q
-        → StateAt x (entryArrays m w₂ (f .len) at (s .origin + 1)) (pushed f b) (pastOf s n (s .cut + 1) middle top total widest next comparisons) (R ▹ t) (liftWaiting W′) (liftWaiting Q′) rest q
+    entered : (t : Entry) {w₂ : List ℕ} {at b middle top total widest next comparisons : ℕ} {W′ Q′ : List Waiting} {q : Progress} → domain t ≡ taken → Sound (R ▹ t) → length w₂ ≡ longestState → Agree (m .work) w₂ 0 (f .end) → Agree (m .work) w₂ b longestState
+        → EntryBytes w₂ (f .end) t b → Stands w₂ at b taken → Queue true (x .term) (x .term) (m .list) (f .len) (length (x .term)) (s .bottom) 0 middle W′ → Queue false (x .term) (m .work) (m .list) (f .len) (f .end) middle (waitingScope (termsOf W′)) top Q′
+        → middle ≤ s .middle → top ≤ s .top → (s .own ≡ true → (Q′ ≡ []) × (middle ≡ top) × (b + lowOf (m .list) (s .top) ≤ f .end + suc n + lowOf (m .list) top))
+        → total ≡ waitingSize (termsOf W′) + waitingSize (termsOf Q′) → widest ≡ max (waitingScope (termsOf W′)) (waitingScope (termsOf Q′)) → total ≤ longestState → widest ≤ mostAbstractors → Reached (x .file) next comparisons q
+        → StateAt x (entryArrays m w₂ (f .len) at (s .origin + 1) b) (pushed f b) (pastOf s n (s .cut + 1) middle top total widest next comparisons) (R ▹ t) (liftWaiting W′) (liftWaiting Q′) rest q
     unfolding rest
-    entered t {w₂} {at} {b} {middle} {top} {total} {widest} {next} {comparisons} {W′} {Q′} td d l a y k v u mt tp ow si sc sb cb r =
+    entered t {w₂} {at} {b} {middle} {top} {total} {widest} {next} {comparisons} {W′} {Q′} td d l a a′ y k v u mt tp ow si sc sb cb r =
         let later = further in
         let inside-now = place-now (s .own) refl in
         record {
-          term-short = z .term-short;
-          stored = stored-push (z .stored) a l y fewer-entries;
-          sound = d;
-          notes = notes-push {e = b} a (omega (arith, l, z .stored .inside)) (omega (arith, bytes-start y)) (omega (arith, z .domains-long, fewer-entries)) (omega (arith, z .origins-long, fewer-entries)) (z .notes) (rw td k) (omega arith) (rw td taken-origin);
-          domains-long = length-set (m .domains) (f .len) at ∙ z .domains-long;
-          origins-long = length-set (m .origins) (f .len) (s .origin + 1) ∙ z .origins-long;
-          waits = rw (add-one (f .len)) (queue-deeper v);
-          copies = rw (add-one (f .len)) (queue-before (sym (scope-lifted W′)) (queue-deeper (queue-agree a (omega (arith, l, z .stored .inside)) (omega (arith, bytes-start y)) u)));
-          listed = omega (arith, z .listed);
-          few-waiting = omega (arith, later, z .few-waiting);
-          place-bound = inside-now;
-          size-is = omega (arith, si, size-lifted W′, size-lifted Q′);
-          scope-is = omega (arith, sc, scope-lifted W′, scope-lifted Q′);
-          size-bound = sb;
-          scope-bound = cb;
+          held = record {
+            term-short = z .held .term-short;
+            stored = stored-push (z .held .stored) a l y fewer-entries;
+            sound = d;
+            notes = notes-push b {e = b} a (omega (arith, l, z .held .stored .inside)) (omega (arith, bytes-start y)) (omega (arith, z .held .domains-long, fewer-entries)) (omega (arith, z .held .origins-long, fewer-entries)) (z .held .notes) (rw td k) (omega arith) (rw td taken-origin);
+            domains-long = length-set (m .domains) (f .len) at ∙ z .held .domains-long;
+            origins-long = length-set (m .origins) (f .len) (s .origin + 1) ∙ z .held .origins-long;
+            waits = rw (add-one (f .len)) (queue-deeper v);
+            kept = λ j g h. kept-through (m .list) (z .held .kept) agree-refl (agree-part a′ (omega arith) (omega arith)) (z .held .stored .work) l (omega arith) j g (omega arith);
+            copies = rw (add-one (f .len)) (queue-before (sym (scope-lifted W′)) (queue-deeper (queue-agree a (omega (arith, l, z .held .stored .inside)) (omega (arith, bytes-start y)) u)));
+            listed = omega (arith, z .held .listed);
+            few-waiting = omega (arith, later, z .held .few-waiting);
+            place-bound = inside-now;
+            size-is = omega (arith, si, size-lifted W′, size-lifted Q′);
+            scope-is = omega (arith, sc, scope-lifted W′, scope-lifted Q′);
+            size-bound = sb;
+            scope-bound = cb;
+          };
           text = two-abs .two;
           end = z .end;
           stands = second-now l a;
@@ -246,11 +256,12 @@ module _ {x : Text} {m : Arrays} {f : FrameRecord} {s : WalkState} {R : Frame} {
           reached = r;
         }
       where
-        own-now : s .own ≡ true → (Q′ ≡ []) × (middle ≡ top) → OwnText (pastOf s n (s .cut + 1) middle top total widest next comparisons) (liftWaiting Q′)
+        own-now : s .own ≡ true → (Q′ ≡ []) × (middle ≡ top) × (b + lowOf (m .list) (s .top) ≤ f .end + suc n + lowOf (m .list) top)
+            → OwnText (entryArrays m w₂ (f .len) at (s .origin + 1) b) (pushed f b) (pastOf s n (s .cut + 1) middle top total widest next comparisons) (liftWaiting Q′)
         own-now i g =
             let t = z .own-text i in
             let u : cond (s .own) (s .from + 1 + n) (s .place) ≡ s .from + 1 + n = ap (λ k. cond k (s .from + 1 + n) (s .place)) i in
-            record { in-term = t .in-term; at-place = sym u; itself = omega (arith, u, t .at-place, t .itself); unlifted = t .unlifted; no-copies = none-lifted (g .0); tops = g .1 }
+            record { in-term = t .in-term; at-place = sym u; itself = omega (arith, u, t .at-place, t .itself); unlifted = t .unlifted; no-copies = none-lifted (g .0); tops = g .1; low = t .low; packed = omega (arith, u, t .at-place, t .packed, g .2) }
 
     -- where the rest is
     place-is : (b : Bool) → s .own ≡ b → cond b (suc (s .place) + size taken) (s .place) ≡ cond b (s .from + 1 + n) (s .place)
@@ -260,85 +271,108 @@ module _ {x : Text} {m : Arrays} {f : FrameRecord} {s : WalkState} {R : Frame} {
     -- (iv) and (x)
     module _ (q : s .bottom ≡ s .top) where
       no-w : W ≡ []
-      no-w = queue-empty (z .waits) (omega (arith, queue-base (z .waits), queue-base (z .copies)))
+      no-w = queue-empty (z .held .waits) (omega (arith, queue-base (z .held .waits), queue-base (z .held .copies)))
 
       no-q : Q ≡ []
-      no-q = queue-empty (z .copies) (omega (arith, queue-base (z .waits), queue-base (z .copies)))
+      no-q = queue-empty (z .held .copies) (omega (arith, queue-base (z .held .waits), queue-base (z .held .copies)))
 
       pub alone-room : f .end + suc (size (two-abs .one)) ≤ longestState
       alone-room = omega (arith, o .fits, sizes)
 
       pub alone-becomes : {w₂ : List ℕ} {b : ℕ} (a c : List ℕ) → WrittenTerm 0xff (m .work) w₂ (f .end) b taken
-          → Becomes x (entryArrays m w₂ (f .len) (f .end + 1) (s .origin + 1)) f s a c (going 1 (pastOf s n (s .cut + 1) (s .middle) (s .top) (s .size) (s .scope) (s .next) (s .comparisons)) true b)
+          → Becomes x (entryArrays m w₂ (f .len) (f .end + 1) (s .origin + 1) b) f s a c (going 1 (pastOf s n (s .cut + 1) (s .middle) (s .top) (s .size) (s .scope) (s .next) (s .comparisons)) true b)
           (statesOf (stateOf (s .own) R W Q B)) (finish (restOf (s .own) (s .place) R W Q B) p)
       unfolding domain
       alone-becomes a c u = becomes-state refl
-          (entered (single taken) refl (sound-single (z .sound) (part-at (sym (stored-depth (z .stored))) taken-part)) (u .work) (u .below) (single-bytes u) (rw add-one (u .stands)) (z .waits) (z .copies)
-          (omega arith) (omega arith) (λ i. (no-q, z .own-text i .tops)) (z .size-is) (z .scope-is) (z .size-bound) (z .scope-bound) (z .reached))
+          (entered (single taken) refl (sound-single (z .held .sound) (part-at (sym (stored-depth (z .held .stored))) taken-part)) (u .work) (u .below) (u .above) (single-bytes u) (rw add-one (u .stands)) (z .held .waits) (z .held .copies)
+          (omega arith) (omega arith) (λ i. (no-q, z .own-text i .tops, omega (arith, u .stands .place, taken-size))) (z .held .size-is) (z .held .scope-is) (z .held .size-bound) (z .held .scope-bound) (z .reached))
           refl (fewer-is (s .own) R W (liftWaiting W) Q (liftWaiting Q) (single taken) B taken rest is-abs refl) (run-alone (s .own) (s .place) R p is-abs no-w no-q (place-is (s .own) refl))
 
-    -- the last that waits
-    module _ {src : List ℕ} {limit base before top : ℕ} {L : List Waiting} (l : Last (x .term) src (m .list) (f .len) limit base before top L)
-        (fit : f .end + (suc (size (l .last .term)) + suc (size (two-abs .one))) ≤ longestState) (sc : f .len + scope (l .last .term) ≤ mostAbstractors)
-        {v : Slot} (q : v ≡ slotOf (m .list) (top - 1)) {k : ℕ} (g : k ≡ size (l .slot .raw)) where
-      last-size : size (l .last .term) ≡ k
+    -- the last that waits, as v says, in the term or in the work array
+    module _ {b : Bool} {v : Slot} {w : Waiting} (l : Taken x m f n b v w) {k : ℕ} (g : k ≡ size (l .slot .raw)) where
+      pub last-size : size (w .term) ≡ k
       last-size = raw-size (l .slot) ∙ sym g
 
       last-end : v .at + 1 + k ≡ l .slot .end
-      last-end = omega (arith, ap (λ u. u .at) q, l .slot .stands .place)
+      last-end = omega (arith, l .slot .stands .place)
 
-      pub applied-writable : Writable src (m .work) (v .at + 1) (v .at + 1 + k) (v .shift) (v .cut) (f .len - v .depth) (f .end)
-      applied-writable = rw (last-end, q) (waits-writable (l .slot) (z .stored .work) (omega arith) sc)
-
-      slot-stands : Stands src (slotOf (m .list) (top - 1) .at + 1) (l .slot .end) (l .slot .raw)
+      slot-stands : Stands (cond b (x .term) (m .work)) (v .at + 1) (l .slot .end) (l .slot .raw)
       slot-stands = rw add-one (l .slot .stands)
 
-      pub applied-placed : {depths : List ℕ} → DepthsKnown (x .term) depths → Placed (x .term) depths src (v .at + 1) (v .at + 1 + k) (v .place + 1)
-      applied-placed e = record {
-        deep = e .deep;
-        long = e .long;
-        origin = λ X h. rw q (origin-is (stands-unique slot-stands (rw (last-end, q) at h) .0) (l .slot .origin));
-      }
+      pub applied-asked : (b ≡ false → (v .at + 1 + k ≤ f .end) ⊎ (f .end + 1 + k ≤ v .at + 1)) → {depths : List ℕ} → DepthsKnown (x .term) depths
+          → PutAsked (x .term) depths (m .work) b (v .at + 1) (v .at + 1 + k) (v .place + 1) (f .end) (v .shift) (v .cut) (f .len - v .depth)
+      applied-asked apart d = (
+        omega (arith, l .slot .shift-bound),
+        omega (arith, l .slot .cut-bound),
+        omega (arith, z .held .stored .few),
+        (λ i. ⊎-elim (λ h. inl h) (λ h. inr (omega arith)) (apart i)),
+        rw last-end (waits-writable (l .slot) (z .held .stored .work) (omega (arith, l .fits)) (l .shallow)),
+        record { deep = d .deep; long = d .long; origin = λ X h. origin-is (stands-unique slot-stands (rw last-end at h) .0) (l .slot .origin) },
+      )
 
-      module _ {w₁ : List ℕ} {a : ℕ} (u : Puts 0xfe src (m .work) w₁ (v .at + 1) (v .at + 1 + k) (v .shift) (v .cut) (f .len - v .depth) (f .end) a) where
-        pub applied-written : WrittenTerm 0xfe (m .work) w₁ (f .end) a (l .last .term)
-        applied-written = waits-written (l .slot) (rw (last-end, q) at u)
+      module _ {w₁ : List ℕ} {a : ℕ} (u : Puts 0xfe (cond b (x .term) (m .work)) (m .work) w₁ (v .at + 1) (v .at + 1 + k) (v .shift) (v .cut) (f .len - v .depth) (f .end) a) where
+        applied-written : WrittenTerm 0xfe (m .work) w₁ (f .end) a (w .term)
+        applied-written = waits-written (l .slot) (rw last-end at u)
 
-        pub applied-past : (a ≡ f .end + suc (size (l .last .term))) × (f .end ≤ a) × (a + suc (size (two-abs .one)) ≤ longestState)
-        applied-past = let h = applied-written .stands .place in (omega arith, omega arith, omega arith)
+        pub applied-past : (a ≡ f .end + suc (size (w .term))) × (f .end ≤ a) × (a + suc (size (two-abs .one)) ≤ longestState)
+        applied-past = let h = applied-written .stands .place in (omega arith, omega arith, omega (arith, l .fits))
 
-        pub domain-asked : (s .cut < 65536) × (s .«in_term» ≡ false → s .from + 1 + n ≤ a) × Writable (cond (s .«in_term») (x .term) w₁) w₁ (s .from + 1) (s .from + 1 + n) (s .shift) (s .cut) 0 a
-        domain-asked = domain-writable (applied-written .work) (applied-written .below) (applied-past .1) (applied-past .2)
+        pub domain-asked : {depths : List ℕ} → DepthsKnown (x .term) depths → PutAsked (x .term) depths w₁ (s .«in_term») (s .from + 1) (s .from + 1 + n) (s .origin + 1) a (s .shift) (s .cut) 0
+        domain-asked d = domain-writable (applied-written .work) (applied-written .below) (applied-past .1) (applied-past .2) d
 
-        module _ {w₂ : List ℕ} {b : ℕ} (t : Puts 0xff (cond (s .«in_term») (x .term) w₁) w₁ w₂ (s .from + 1) (s .from + 1 + n) (s .shift) (s .cut) 0 a b) where
-          pub domain-whole : WrittenTerm 0xff w₁ w₂ a b taken
+        module _ {w₂ : List ℕ} {c : ℕ} (t : Puts 0xff (cond (s .«in_term») (x .term) w₁) w₁ w₂ (s .from + 1) (s .from + 1 + n) (s .shift) (s .cut) 0 a c) where
+          domain-whole : WrittenTerm 0xff w₁ w₂ a c taken
           domain-whole = domain-written (applied-written .work) (applied-written .below) t
 
-          pub pair-below : Agree (m .work) w₂ 0 (f .end)
-          pair-below = agree-trans (applied-written .below) (agree-part (domain-whole .below) (omega arith) (applied-past .1))
+          pub pair-below : (length w₂ ≡ longestState) × Agree (m .work) w₂ 0 (f .end) × Agree (m .work) w₂ c longestState
+          pair-below = (
+            domain-whole .work,
+            agree-trans (applied-written .below) (agree-part (domain-whole .below) (omega arith) (applied-past .1)),
+            agree-trans (agree-part (applied-written .above) (omega (arith, stands-start (domain-whole .stands))) (omega arith)) (domain-whole .above),
+          )
 
-          pub pair-end : f .end ≤ b
-          pair-end = omega (arith, applied-past .1, stands-start (domain-whole .stands))
+          pub pair-end : (c ≡ f .end + suc k + suc n) × (f .end ≤ c) × (a + 1 < 65536) × (c < 65536)
+          pair-end =
+              let h = domain-whole .stands .place in
+              (omega (arith, applied-past .0, last-size, taken-size), omega (arith, applied-past .1), omega (arith, applied-past .2), omega (arith, stands-end (domain-whole .stands), domain-whole .work))
 
-          pub pair-bounds : (a + 1 < 65536) × (b < 65536)
-          pair-bounds = (omega (arith, applied-past .2), omega (arith, stands-end (domain-whole .stands), domain-whole .work))
-
-          applied-now : Stands w₂ (suc (f .end)) a (l .last .term)
+          applied-now : Stands w₂ (suc (f .end)) a (w .term)
           applied-now = stands-agree (applied-written .stands) (agree-part (domain-whole .below) (omega arith) (omega arith)) (omega (arith, domain-whole .work, stands-start (domain-whole .stands), stands-end (domain-whole .stands)))
 
-          applied-part : Part (f .len) (l .last .term)
-          applied-part = now-part (l .slot) sc
+          applied-part : Part (f .len) (w .term)
+          applied-part = now-part (l .slot) (l .shallow)
 
-          pair-sound : Sound (R ▹ pair (l .last .term) taken)
-          pair-sound = sound-pair (z .sound) (part-at (sym (stored-depth (z .stored))) applied-part) (part-at (sym (stored-depth (z .stored))) taken-part)
+          pair-sound : Sound (R ▹ pair (w .term) taken)
+          pair-sound = sound-pair (z .held .sound) (part-at (sym (stored-depth (z .held .stored))) applied-part) (part-at (sym (stored-depth (z .held .stored))) taken-part)
 
           -- with the last taken
-          pair-entered : {middle top total widest next comparisons : ℕ} {W′ Q′ : List Waiting} {y : Progress} → Queue (x .term) (x .term) (m .list) (f .len) (length (x .term)) (s .bottom) 0 middle W′
-              → Queue (x .term) (m .work) (m .list) (f .len) (f .end) middle (waitingScope (termsOf W′)) top Q′ → middle ≤ s .middle → top ≤ s .top → (s .own ≡ true → (Q′ ≡ []) × (middle ≡ top))
+          pair-entered : {middle top total widest next comparisons : ℕ} {W′ Q′ : List Waiting} {y : Progress} → Queue true (x .term) (x .term) (m .list) (f .len) (length (x .term)) (s .bottom) 0 middle W′
+              → Queue false (x .term) (m .work) (m .list) (f .len) (f .end) middle (waitingScope (termsOf W′)) top Q′ → middle ≤ s .middle → top ≤ s .top
+              → (s .own ≡ true → (Q′ ≡ []) × (middle ≡ top) × (c + lowOf (m .list) (s .top) ≤ f .end + suc n + lowOf (m .list) top))
               → total ≡ waitingSize (termsOf W′) + waitingSize (termsOf Q′) → widest ≡ max (waitingScope (termsOf W′)) (waitingScope (termsOf Q′)) → total ≤ longestState → widest ≤ mostAbstractors → Reached (x .file) next comparisons y
-              → StateAt x (entryArrays m w₂ (f .len) (a + 1) (s .origin + 1)) (pushed f b) (pastOf s n (s .cut + 1) middle top total widest next comparisons) (R ▹ pair (l .last .term) taken) (liftWaiting W′) (liftWaiting Q′) rest y
+              → StateAt x (entryArrays m w₂ (f .len) (a + 1) (s .origin + 1) c) (pushed f c) (pastOf s n (s .cut + 1) middle top total widest next comparisons) (R ▹ pair (w .term) taken) (liftWaiting W′) (liftWaiting Q′) rest y
           unfolding domain
-          pair-entered = entered (pair (l .last .term) taken) refl pair-sound (domain-whole .work) pair-below (pair-bytes applied-written domain-whole) (rw add-one (domain-whole .stands))
+          pair-entered = entered (pair (w .term) taken) refl pair-sound (domain-whole .work) (pair-below .1) (pair-below .2) (pair-bytes applied-written domain-whole) (rw add-one (domain-whole .stands))
+
+          now-stored : Stored w₂ f R
+          now-stored = stored-agree (z .held .stored) (pair-below .1) (domain-whole .work)
+
+          -- to be compared
+          pub comparing : Comparing (x .file) w₂ (s .next) f a c
+          comparing = record {
+            frame = R;
+            stored = now-stored;
+            closed-frame = sound-closed (z .held .sound);
+            applied = w .term;
+            domain = taken;
+            applied-closed = applied-part .closed;
+            applied-fits = record { short = applied-part .short; shallow = applied-part .shallow };
+            domain-closed = taken-part .closed;
+            applied-stands = applied-now;
+            domain-stands = domain-whole .stands;
+            groups = z .reached .groups;
+            stand = z .reached .stand;
+          }
 
     -- (xii)
     module _ (y : s .middle < s .top) where
@@ -349,147 +383,165 @@ module _ {x : Text} {m : Arrays} {f : FrameRecord} {s : WalkState} {R : Frame} {
           by-text true i = absurd (omega (arith, z .own-text i .tops))
           by-text false i = refl
 
-      pub last-copied : Last (x .term) (m .work) (m .list) (f .len) (f .end) (s .middle) (waitingScope (termsOf W)) (s .top) Q
-      last-copied = queue-last (z .copies) (λ i. omega arith)
+      pub last-copied : Last false (x .term) (m .work) (m .list) (f .len) (f .end) (s .middle) (waitingScope (termsOf W)) (s .top) Q
+      last-copied = queue-last (z .held .copies) (λ i. omega arith)
 
       sizes-copied : (waitingSize (termsOf Q) ≡ suc (size (last-copied .last .term)) + waitingSize (termsOf (last-copied .others))) × (waitingScope (termsOf Q) ≡ max (scope (last-copied .last .term)) (waitingScope (termsOf (last-copied .others))))
       unfolding waitingSize waitingScope termsOf
       sizes-copied = (ap (λ k. waitingSize (termsOf k)) (last-copied .is), ap (λ k. waitingScope (termsOf k)) (last-copied .is))
 
-      pub copied-fits : (f .end + (suc (size (last-copied .last .term)) + suc (size (two-abs .one))) ≤ longestState) × (f .len + scope (last-copied .last .term) ≤ mostAbstractors)
-      copied-fits = (omega (arith, o .fits, sizes, z .size-is, sizes-copied .0), omega (arith, o .waits-fit, z .scope-is, sizes-copied .1))
+      module _ {v : Slot} (q : v ≡ slotOf (m .list) (s .top - 1)) where
+        pub taken-copied : Taken x m f n false v (last-copied .last)
+        taken-copied = record {
+          limit = f .end;
+          slot = waits-at (sym q) (last-copied .slot);
+          fits = omega (arith, o .fits, sizes, z .held .size-is, sizes-copied .0);
+          shallow = omega (arith, o .waits-fit, z .held .scope-is, sizes-copied .1);
+        }
 
-      module _ {v : Slot} (q : v ≡ slotOf (m .list) (s .top - 1)) {k : ℕ} (g : k ≡ size (last-copied .slot .raw)) {w₁ w₂ : List ℕ} {a b : ℕ}
-          (u : Puts 0xfe (m .work) (m .work) w₁ (v .at + 1) (v .at + 1 + k) (v .shift) (v .cut) (f .len - v .depth) (f .end) a)
-          (t : Puts 0xff (cond (s .«in_term») (x .term) w₁) w₁ w₂ (s .from + 1) (s .from + 1 + n) (s .shift) (s .cut) 0 a b) where
-        pub copied-size : 1 + k ≤ s .size
-        copied-size = omega (arith, z .size-is, sizes-copied .0, raw-size (last-copied .slot))
+        module _ {k : ℕ} (g : k ≡ size (taken-copied .slot .raw)) where
+          pub copied-size : (1 + k ≤ s .size) × (v .at + 1 + k ≤ f .end)
+          unfolding taken-copied
+          copied-size = (omega (arith, z .held .size-is, sizes-copied .0, last-size taken-copied g), omega (arith, taken-copied .slot .stands .place, taken-copied .slot .inside))
 
-        pub copied-becomes : (c d : List ℕ) → Becomes x (entryArrays m w₂ (f .len) (a + 1) (s .origin + 1)) f s c d
-            (going 1 (pastOf s n (s .cut + 1) (s .middle) (s .top - 1) (s .size - (1 + k)) (v .scope) (s .next) (s .comparisons)) true b) (statesOf (stateOf (s .own) R W Q B)) (finish (restOf (s .own) (s .place) R W Q B) p)
-        unfolding domain
-        copied-becomes c d =
-            let l = last-copied in
-            becomes-state refl
-            (pair-entered l (copied-fits .0) (copied-fits .1) q g u t (z .waits) (l .rest) (omega arith) (omega arith) (λ i. no-confusion (sym is-copied ∙ i))
-            (omega (arith, z .size-is, sizes-copied .0, raw-size (l .slot))) (ap (λ r. r .scope) q ∙ l .scope-below) (omega (arith, z .size-bound)) (omega (arith, ap (λ r. r .scope) q, l .scope-below, z .scope-is, z .scope-bound, sizes-copied .1)) (z .reached))
-            refl (fewer-is (s .own) R W (liftWaiting W) Q (liftWaiting (l .others)) (pair (l .last .term) taken) B taken rest is-abs refl)
-            (run-copied (s .own) (s .place) (s .from + 1 + n) R W p is-copied is-abs (l .is))
+          module _ {w₁ w₂ : List ℕ} {a b : ℕ} (u : Puts 0xfe (m .work) (m .work) w₁ (v .at + 1) (v .at + 1 + k) (v .shift) (v .cut) (f .len - v .depth) (f .end) a)
+              (t : Puts 0xff (cond (s .«in_term») (x .term) w₁) w₁ w₂ (s .from + 1) (s .from + 1 + n) (s .shift) (s .cut) 0 a b) where
+            pub copied-becomes : (c d : List ℕ) → Becomes x (entryArrays m w₂ (f .len) (a + 1) (s .origin + 1) b) f s c d
+                (going 1 (pastOf s n (s .cut + 1) (s .middle) (s .top - 1) (s .size - (1 + k)) (v .scope) (s .next) (s .comparisons)) true b) (statesOf (stateOf (s .own) R W Q B)) (finish (restOf (s .own) (s .place) R W Q B) p)
+            unfolding domain
+            copied-becomes c d =
+                let l = last-copied in
+                becomes-state refl
+                (pair-entered taken-copied g u t (z .held .waits) (l .rest) (omega arith) (omega arith) (λ i. no-confusion (sym is-copied ∙ i))
+                (omega (arith, z .held .size-is, sizes-copied .0, last-size taken-copied g)) (ap (λ r. r .scope) q ∙ l .scope-below) (omega (arith, z .held .size-bound)) (omega (arith, ap (λ r. r .scope) q, l .scope-below, z .held .scope-is, z .held .scope-bound, sizes-copied .1)) (z .reached))
+                refl (fewer-is (s .own) R W (liftWaiting W) Q (liftWaiting (l .others)) (pair (l .last .term) taken) B taken rest is-abs refl)
+                (run-copied (s .own) (s .place) (s .from + 1 + n) R W p is-copied is-abs (l .is))
 
     -- (v) and (xi)
     module _ (y : s .top ≤ s .middle) (ne : s .bottom ≡ s .top → ⊥) where
       no-copies : Q ≡ []
-      no-copies = queue-empty (z .copies) (omega (arith, queue-base (z .copies)))
+      no-copies = queue-empty (z .held .copies) (omega (arith, queue-base (z .held .copies)))
 
       same-tops : s .top ≡ s .middle
-      same-tops = omega (arith, queue-base (z .copies))
+      same-tops = omega (arith, queue-base (z .held .copies))
 
-      pub last-waiting : Last (x .term) (x .term) (m .list) (f .len) (length (x .term)) (s .bottom) 0 (s .middle) W
-      last-waiting = queue-last (z .waits) (λ i. ne (omega (arith, same-tops)))
+      pub last-waiting : Last true (x .term) (x .term) (m .list) (f .len) (length (x .term)) (s .bottom) 0 (s .middle) W
+      last-waiting = queue-last (z .held .waits) (λ i. ne (omega (arith, same-tops)))
 
       pub one-waits : (s .bottom < s .top) × (1 ≤ s .top)
-      one-waits = (omega (arith, queue-base (z .waits), same-tops, ne), omega (arith, queue-base (z .waits), same-tops, ne))
+      one-waits = (omega (arith, queue-base (z .held .waits), same-tops, ne), omega (arith, queue-base (z .held .waits), same-tops, ne))
 
       sizes-waiting : (waitingSize (termsOf W) ≡ suc (size (last-waiting .last .term)) + waitingSize (termsOf (last-waiting .others))) × (waitingScope (termsOf W) ≡ max (scope (last-waiting .last .term)) (waitingScope (termsOf (last-waiting .others))))
       unfolding waitingSize waitingScope termsOf
       sizes-waiting = (ap (λ k. waitingSize (termsOf k)) (last-waiting .is), ap (λ k. waitingScope (termsOf k)) (last-waiting .is))
 
-      pub waiting-fits : (f .end + (suc (size (last-waiting .last .term)) + suc (size (two-abs .one))) ≤ longestState) × (f .len + scope (last-waiting .last .term) ≤ mostAbstractors)
-      waiting-fits = (omega (arith, o .fits, sizes, z .size-is, sizes-waiting .0), omega (arith, o .waits-fit, z .scope-is, sizes-waiting .1))
-
       none-copied : (waitingSize (termsOf Q) ≡ 0) × (waitingScope (termsOf Q) ≡ 0)
       unfolding waitingSize waitingScope termsOf
       none-copied = (ap (λ k. waitingSize (termsOf k)) no-copies, ap (λ k. waitingScope (termsOf k)) no-copies)
 
-      module _ {v : Slot} (q : v ≡ slotOf (m .list) (s .top - 1)) {k : ℕ} (g : k ≡ size (last-waiting .slot .raw)) where
+      -- its bytes at the end of the work array
+      last-kept : KeptSlot (x .term) (m .work) (m .list) (m .reach) (s .middle - 1)
+      last-kept = z .held .kept (s .middle - 1) (omega (arith, one-waits .0, same-tops)) (omega (arith, one-waits .1, same-tops))
+
+      last-there : m .reach ≤ slotOf (m .list) (s .middle - 1) .at → Stands (m .work) (suc (slotOf (m .list) (s .middle - 1) .at)) (suc (slotOf (m .list) (s .middle - 1) .at) + size (last-waiting .slot .raw)) (last-waiting .slot .raw)
+      last-there h = same-term (stands-unique (last-kept .stands) (last-waiting .slot .stands) .0) (last-kept .there h)
+        where
+          same-term : {X Y : Term} {i : ℕ} → X ≡ Y → Stands (m .work) i (i + size X) X → Stands (m .work) i (i + size Y) Y
+          same-term e d = rw (← e) d
+
+      module _ {v : Slot} (q : v ≡ slotOf (m .list) (s .top - 1)) where
         slot-is : v ≡ slotOf (m .list) (s .middle - 1)
         slot-is = rw (← same-tops) q
 
-        pub waiting-size : 1 + k ≤ s .size
-        waiting-size = omega (arith, z .size-is, sizes-waiting .0, raw-size (last-waiting .slot))
-
-        pub waiting-writable : Writable (x .term) (m .work) (v .at + 1) (v .at + 1 + k) (v .shift) (v .cut) (f .len - v .depth) (f .end)
-        waiting-writable = applied-writable last-waiting (waiting-fits .0) (waiting-fits .1) slot-is g
-
-        module _ {w₁ : List ℕ} {a : ℕ} (u : Puts 0xfe (x .term) (m .work) w₁ (v .at + 1) (v .at + 1 + k) (v .shift) (v .cut) (f .len - v .depth) (f .end) a) where
-          pub waiting-asked : (s .cut < 65536) × (s .«in_term» ≡ false → s .from + 1 + n ≤ a) × Writable (cond (s .«in_term») (x .term) w₁) w₁ (s .from + 1) (s .from + 1 + n) (s .shift) (s .cut) 0 a
-          waiting-asked = domain-asked last-waiting (waiting-fits .0) (waiting-fits .1) slot-is g u
-
-          module _ {w₂ : List ℕ} {b : ℕ} (t : Puts 0xff (cond (s .«in_term») (x .term) w₁) w₁ w₂ (s .from + 1) (s .from + 1 + n) (s .shift) (s .cut) 0 a b) where
-            whole : WrittenTerm 0xff w₁ w₂ a b taken
-            whole = domain-whole last-waiting (waiting-fits .0) (waiting-fits .1) slot-is g u t
-
-            below : Agree (m .work) w₂ 0 (f .end)
-            below = pair-below last-waiting (waiting-fits .0) (waiting-fits .1) slot-is g u t
-
-            pub waiting-keeps : (length w₂ ≡ longestState) × Agree (m .work) w₂ 0 (f .end) × (f .end ≤ b) × (a + 1 < 65536)
-            waiting-keeps = (whole .work, below, pair-end last-waiting (waiting-fits .0) (waiting-fits .1) slot-is g u t, pair-bounds last-waiting (waiting-fits .0) (waiting-fits .1) slot-is g u t .0)
-
-            now-stored : Stored w₂ f R
-            now-stored = stored-agree (z .stored) below (whole .work)
-
-            applied-here : Stands w₂ (suc (f .end)) a (last-waiting .last .term)
-            applied-here = applied-now last-waiting (waiting-fits .0) (waiting-fits .1) slot-is g u t
-
-            pub comparing : Comparing (x .file) w₂ (s .next) f a b
-            comparing = let k = now-part (last-waiting .slot) (waiting-fits .1) in record {
-              frame = R;
-              stored = now-stored;
-              closed-frame = sound-closed (z .sound);
-              applied = last-waiting .last .term;
-              domain = taken;
-              applied-closed = k .closed;
-              applied-fits = record { short = k .short; shallow = k .shallow };
-              domain-closed = taken-part .closed;
-              applied-stands = applied-here;
-              domain-stands = whole .stands;
-              groups = z .reached .groups;
-              stand = z .reached .stand;
+        -- read from the term, or from the work array where no frame was written over it
+        pub taken-waiting : (b : Bool) → (b ≡ false → m .reach ≤ v .at) → Taken x m f n b (seen b v) (last-waiting .last)
+        taken-waiting true h = record {
+          limit = length (x .term);
+          slot = waits-at (ap (seen true) (sym slot-is)) (last-waiting .slot);
+          fits = omega (arith, o .fits, sizes, z .held .size-is, sizes-waiting .0);
+          shallow = omega (arith, o .waits-fit, z .held .scope-is, sizes-waiting .1);
+        }
+        taken-waiting false h =
+            let there = last-there (omega (arith, ap (λ u. u .at) slot-is, h refl)) in
+            let r = last-waiting .slot in
+            record {
+              limit = longestState;
+              slot = waits-at (ap (seen false) (sym slot-is)) (record {
+                raw = r .raw;
+                end = suc (slotOf (m .list) (s .middle - 1) .at) + size (r .raw);
+                stands = there;
+                inside = omega (arith, stands-end there, z .held .stored .work);
+                origin = r .origin;
+                shift-bound = r .shift-bound;
+                cut-bound = r .cut-bound;
+                part = r .part;
+                deep = r .deep;
+                is-place = r .is-place;
+                seen = r .seen;
+              });
+              fits = omega (arith, o .fits, sizes, z .held .size-is, sizes-waiting .0);
+              shallow = omega (arith, o .waits-fit, z .held .scope-is, sizes-waiting .1);
             }
 
-            module _ {c : Compared} {left right : List ℕ} (r : Compares (x .file) w₂ (s .next) f a b c left right) where
-              abbrev theRun : Run
-              theRun = finish (same-at (last-waiting .last .place) R (last-waiting .last .term) taken ∷ []) p
+        module _ {b : Bool} (h : b ≡ false → m .reach ≤ v .at) {k : ℕ} (g : k ≡ size (taken-waiting b h .slot .raw)) where
+          abbrev here : Taken x m f n b (seen b v) (last-waiting .last)
+          here = taken-waiting b h
 
-              compared : CompareSays (x .file) (s .next) c left right (last-waiting .last .place) p theRun
-              compared = r .all R (last-waiting .last .term) taken (z .reached .groups) now-stored applied-here (whole .stands) (z .reached .stand) (last-waiting .last .place) p (z .reached .left)
+          pub waiting-size : 1 + k ≤ s .size
+          waiting-size = omega (arith, z .held .size-is, sizes-waiting .0, last-size here g)
 
-              place-of-v : v .place ≡ last-waiting .last .place
-              place-of-v = ap (λ u. u .place) slot-is ∙ sym (last-waiting .slot .is-place)
+          taken-room : lowOf (m .list) (s .top) + suc k ≤ lowOf (m .list) (s .top - 1)
+          taken-room = omega (arith, low-last (m .list) (s .top) (one-waits .1), ap (λ i. slotOf (m .list) (i - 1) .at) same-tops, ap (λ i. lowOf (m .list) (i - 1)) same-tops, last-kept .apart, ap size (stands-unique (last-kept .stands) (last-waiting .slot .stands) .0), raw-size (last-waiting .slot), last-size here g)
 
-              run-is : finish (restOf (s .own) (s .place) R W Q B) p ≡ andThen theRun (finish (agendaOf false (s .own) (cond (s .own) (s .from + 1 + n) (s .place)) (R ▹ pair (last-waiting .last .term) taken) (liftWaiting (last-waiting .others)) [] rest))
-              run-is = run-waiting (s .own) (s .place) R p is-abs (last-waiting .is) no-copies (place-is (s .own) refl)
+          module _ {w₁ w₂ : List ℕ} {a c : ℕ} (u : Puts 0xfe (cond b (x .term) (m .work)) (m .work) w₁ (cond b (v .place) (v .at) + 1) (cond b (v .place) (v .at) + 1 + k) (v .shift) (v .cut) (f .len - v .depth) (f .end) a)
+              (t : Puts 0xff (cond (s .«in_term») (x .term) w₁) w₁ w₂ (s .from + 1) (s .from + 1 + n) (s .shift) (s .cut) 0 a c)
+              {d : Compared} {left right : List ℕ} (r : Compares (x .file) w₂ (s .next) f a c d left right) where
+            abbrev theRun : Run
+            theRun = finish (same-at (last-waiting .last .place) R (last-waiting .last .term) taken ∷ []) p
 
-              becomes-at : {A : Arrays} {d : Turned} {i : ℕ} {v w : Run} → v ≡ w → Becomes x A f s left right d i w → Becomes x A f s left right d i v
-              becomes-at e h = rw e h
+            compared : CompareSays (x .file) (s .next) d left right (last-waiting .last .place) p theRun
+            compared = r .all R (last-waiting .last .term) taken (z .reached .groups) (now-stored here g u t) (applied-now here g u t) (domain-whole here g u t .stands) (z .reached .stand) (last-waiting .last .place) p (z .reached .left)
 
-              pub waiting-stops : (c .number ≡ 0 → ⊥) → Becomes x (entryArrays m w₂ (f .len) (a + 1) (s .origin + 1)) f s left right (answering (c .number) (v .place) (c .first) (c .second) (c .third) s)
-                  (statesOf (stateOf (s .own) R W Q B)) (finish (restOf (s .own) (s .place) R W Q B) p)
-              unfolding andThen
-              waiting-stops h = becomes-at run-is (go compared)
-                where
-                  go : {r : Run} → CompareSays (x .file) (s .next) c left right (last-waiting .last .place) p r
-                      → Becomes x (entryArrays m w₂ (f .len) (a + 1) (s .origin + 1)) f s left right (answering (c .number) (v .place) (c .first) (c .second) (c .third) s)
-                      (statesOf (stateOf (s .own) R W Q B)) (andThen r (finish (agendaOf false (s .own) (cond (s .own) (s .from + 1 + n) (s .place)) (R ▹ pair (last-waiting .last .term) taken) (liftWaiting (last-waiting .others)) [] rest)))
-                  go (compare-passed gs i j k l m) = absurd (h i)
-                  go (compare-stopped i j k) = becomes-answer refl (says-stopped (halts-compared i refl (place-of-v ∙ sym j) refl refl refl) (sym (z .reached .counted) ∙ sym k))
+            place-of-v : v .place ≡ last-waiting .last .place
+            place-of-v = ap (λ u. u .place) slot-is ∙ sym (last-waiting .slot .is-place)
 
-              pub waiting-becomes : c .number ≡ 0 → Becomes x (entryArrays m w₂ (f .len) (a + 1) (s .origin + 1)) f s left right
-                  (going 1 (pastOf s n (s .cut + 1) (s .top - 1) (s .top - 1) (s .size - (1 + k)) (v .scope) (c .next) (s .comparisons + 1)) true b)
-                  (statesOf (stateOf (s .own) R W Q B)) (finish (restOf (s .own) (s .place) R W Q B) p)
-              unfolding andThen domain liftWaiting termsOf waitingSize waitingScope
-              waiting-becomes h = becomes-at run-is (go compared)
-                where
-                  go : {r : Run} → CompareSays (x .file) (s .next) c left right (last-waiting .last .place) p r
-                      → Becomes x (entryArrays m w₂ (f .len) (a + 1) (s .origin + 1)) f s left right
-                      (going 1 (pastOf s n (s .cut + 1) (s .top - 1) (s .top - 1) (s .size - (1 + k)) (v .scope) (c .next) (s .comparisons + 1)) true b)
-                      (statesOf (stateOf (s .own) R W Q B)) (andThen r (finish (agendaOf false (s .own) (cond (s .own) (s .from + 1 + n) (s .place)) (R ▹ pair (last-waiting .last .term) taken) (liftWaiting (last-waiting .others)) [] rest)))
-                  go (compare-stopped i j k) = absurd (ground-number i .1 h)
-                  go (compare-passed {q = d} gs i j l e c) =
-                      let w = last-waiting in
-                      becomes-state {W = liftWaiting (w .others)} {Q = []} {p = d} refl
-                      (pair-entered w (waiting-fits .0) (waiting-fits .1) slot-is g u t {W′ = w .others} {Q′ = []} (queue-to (ap (λ i. i - 1) (sym same-tops)) (w .rest)) (no-queue refl refl) (omega (arith, same-tops)) (omega arith) (λ i. (refl, refl))
-                      (omega (arith, z .size-is, sizes-waiting .0, raw-size (w .slot), none-copied .0)) (ap (λ r. r .scope) slot-is ∙ w .scope-below ∙ omega arith) (omega (arith, z .size-bound))
-                      (omega (arith, ap (λ r. r .scope) slot-is, w .scope-below, z .scope-is, z .scope-bound, sizes-waiting .1))
-                      (record { groups = gs; stand = l; left = e; counted = omega (arith, c, z .reached .counted); few = omega (arith, j, z .reached .few); file-bound = z .reached .file-bound }))
-                      refl (fewer-is (s .own) R W (liftWaiting (w .others)) Q [] (pair (w .last .term) taken) B taken rest is-abs refl) refl
+            abbrev After : Frame → Progress → Run
+            After R = finish (agendaOf false (s .own) (cond (s .own) (s .from + 1 + n) (s .place)) (R ▹ pair (last-waiting .last .term) taken) (liftWaiting (last-waiting .others)) [] rest)
+
+            run-is : finish (restOf (s .own) (s .place) R W Q B) p ≡ andThen theRun (After R)
+            run-is = run-waiting (s .own) (s .place) R p is-abs (last-waiting .is) no-copies (place-is (s .own) refl)
+
+            abbrev Comes-to : Turned → Run → Type 0
+            Comes-to i y = Becomes x (entryArrays m w₂ (f .len) (a + 1) (s .origin + 1) c) f s left right i (statesOf (stateOf (s .own) R W Q B)) y
+
+            becomes-at : {i : Turned} {v w : Run} → v ≡ w → Comes-to i w → Comes-to i v
+            becomes-at e h = rw e h
+
+            pub waiting-stops : (d .number ≡ 0 → ⊥) → Comes-to (answering (d .number) (v .place) (d .first) (d .second) (d .third) s) (finish (restOf (s .own) (s .place) R W Q B) p)
+            unfolding andThen
+            waiting-stops h = becomes-at run-is (go compared)
+              where
+                go : {r : Run} → CompareSays (x .file) (s .next) d left right (last-waiting .last .place) p r → Comes-to (answering (d .number) (v .place) (d .first) (d .second) (d .third) s) (andThen r (After R))
+                go (compare-passed gs i j k l m) = absurd (h i)
+                go (compare-stopped i j k) = becomes-answer refl (says-stopped (halts-compared i refl (place-of-v ∙ sym j) refl refl refl) (sym (z .reached .counted) ∙ sym k))
+
+            -- what is taken makes room at the end of the work array
+            low-above : c + lowOf (m .list) (s .top) ≤ f .end + suc n + lowOf (m .list) (s .top - 1)
+            low-above = omega (arith, pair-end here g u t .0, taken-room)
+
+            pub waiting-becomes : d .number ≡ 0
+                → Comes-to (going 1 (pastOf s n (s .cut + 1) (s .top - 1) (s .top - 1) (s .size - (1 + k)) (v .scope) (d .next) (s .comparisons + 1)) true c) (finish (restOf (s .own) (s .place) R W Q B) p)
+            unfolding andThen domain liftWaiting termsOf waitingSize waitingScope
+            waiting-becomes h = becomes-at run-is (go compared)
+              where
+                go : {r : Run} → CompareSays (x .file) (s .next) d left right (last-waiting .last .place) p r
+                    → Comes-to (going 1 (pastOf s n (s .cut + 1) (s .top - 1) (s .top - 1) (s .size - (1 + k)) (v .scope) (d .next) (s .comparisons + 1)) true c) (andThen r (After R))
+                go (compare-stopped i j k) = absurd (ground-number i .1 h)
+                go (compare-passed {q = d} gs i j l e c) =
+                    let w = last-waiting in
+                    becomes-state {W = liftWaiting (w .others)} {Q = []} {p = d} refl
+                    (pair-entered here g u t {W′ = w .others} {Q′ = []} (queue-to (ap (λ i. i - 1) (sym same-tops)) (w .rest)) (no-queue refl refl) (omega (arith, same-tops)) (omega arith) (λ i. (refl, refl, low-above))
+                    (omega (arith, z .held .size-is, sizes-waiting .0, last-size here g, none-copied .0)) (ap (λ r. r .scope) slot-is ∙ w .scope-below ∙ omega arith) (omega (arith, z .held .size-bound))
+                    (omega (arith, ap (λ r. r .scope) slot-is, w .scope-below, z .held .scope-is, z .held .scope-bound, sizes-waiting .1))
+                    (record { groups = gs; stand = l; left = e; counted = omega (arith, c, z .reached .counted); few = omega (arith, j, z .reached .few); file-bound = z .reached .file-bound }))
+                    refl (fewer-is (s .own) R W (liftWaiting (w .others)) Q [] (pair (w .last .term) taken) B taken rest is-abs refl) refl

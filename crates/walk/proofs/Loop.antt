@@ -27,9 +27,9 @@ use Rattle.compare.proofs.Grounds.{ground-number}
 use Rattle.texts.proofs.Origins.{origin-own}
 use Rattle.verdict.specs.Bounds.{stateFits, waitingSize, waitingScope}
 use Rattle.verdict.specs.Verdict.{Ground, Progress, Run, passed, stopped, andThen, turned, finish}
-use Rattle.waiting.specs.Waiting.{Waiting, termsOf, Queue, queue-none}
+use Rattle.waiting.specs.Waiting.{Waiting, termsOf, lowOf, Queue, queue-none}
 use Rattle.waiting.proofs.Texts.{positive, Two, text-app, text-abs}
-use Rattle.waiting.proofs.Queues.{queue-base, queue-keep}
+use Rattle.waiting.proofs.Queues.{queue-base, queue-keep, low-same, descends, kept-through}
 use Rattle.walk.specs.State.{Text, Arrays, Reached, stateOf, restOf, agendaOf, OwnText, StateAt, Stated}
 use Rattle.walk.specs.Contracts.{answering, going, completedOf, innerOf, checkedOf, frameAfter, Halts, halts-waiting, halts-outgrown, halts-compared, Says, says-passed, says-stopped, says-never, says-full, Becomes, becomes-answer, becomes-state, becomes-inner, Keeps, Onward, Comes, comes-now, comes-compared, settledOf, Turns, Settles, InnerAt, Checks}
 use Rattle.walk.specs.declared.WalkState.{WalkState}
@@ -38,7 +38,7 @@ use Rattle.walk.specs.declared.Turned.{Turned}
 use Rattle.walk.proofs.Rules.{run-inner-app, run-inner-abs}
 use Rattle.walk.proofs.Falls.{degreeAndSize, falls-on}
 use Rattle.walk.proofs.Measures.{falling, falling-is}
-use Rattle.walk.proofs.States.{no-confusion, notes-keep, reached-turned}
+use Rattle.walk.proofs.States.{no-confusion, notes-keep, reached-turned, own-low}
 use Rattle.walk.proofs.Waits.{no-queue}
 use Rattle.walk.proofs.Enter.{reached-inside}
 use Rattle.walk.proofs.Turning.{keeps-all}
@@ -56,7 +56,7 @@ record Inside (x : Text) (m : Arrays) (f : FrameRecord) (s : WalkState) (R : Fra
   run : finish (agendaOf false (s .own) (s .place) R W Q B) p ≡ andThen (finish (agendaOf false true (s .place + 1) R [] [] inner) (turned 1 p)) (finish (restOf (s .own) (s .place) R W Q B))
 
 module _ {x : Text} {m : Arrays} {f : FrameRecord} {s : WalkState} {R : Frame} {W Q : List Waiting} {B : Term} {p : Progress} (z : StateAt x m f s R W Q B p) (i : s .own ≡ true) (h : 0xfe ≤ getD (x .term) (s .from) 0) where
-  own : OwnText s Q
+  own : OwnText m f s Q
   own = z .own-text i
 
   stands-own : Stands (x .term) (s .place) (z .end) (z .text)
@@ -70,21 +70,24 @@ module _ {x : Text} {m : Arrays} {f : FrameRecord} {s : WalkState} {R : Frame} {
   inner-at : {X : Term} {e : ℕ} → Stands (x .term) (s .place + 1) e X → Closed (f .len) X → StateAt x m f (innerOf s) R [] [] X (turned 1 p)
   unfolding waitingSize waitingScope termsOf
   inner-at {X} {e} d c = record {
-    term-short = z .term-short;
-    stored = z .stored;
-    sound = z .sound;
-    notes = z .notes;
-    domains-long = z .domains-long;
-    origins-long = z .origins-long;
-    waits = queue-none refl;
-    copies = queue-none refl;
-    listed = z .listed;
-    few-waiting = omega (arith, z .few-waiting, own .tops);
-    place-bound = omega (arith, stands-start d, stands-end d);
-    size-is = refl;
-    scope-is = refl;
-    size-bound = omega arith;
-    scope-bound = omega arith;
+    held = record {
+      term-short = z .held .term-short;
+      stored = z .held .stored;
+      sound = z .held .sound;
+      notes = z .held .notes;
+      domains-long = z .held .domains-long;
+      origins-long = z .held .origins-long;
+      waits = queue-none refl;
+      kept = λ j g h. absurd (omega arith);
+      copies = queue-none refl;
+      listed = z .held .listed;
+      few-waiting = omega (arith, z .held .few-waiting, own .tops);
+      place-bound = omega (arith, stands-start d, stands-end d);
+      size-is = refl;
+      scope-is = refl;
+      size-bound = omega arith;
+      scope-bound = omega arith;
+    };
     text = X;
     end = e;
     stands = d;
@@ -94,7 +97,7 @@ module _ {x : Text} {m : Arrays} {f : FrameRecord} {s : WalkState} {R : Frame} {
     shift-bound = omega arith;
     cut-bound = omega arith;
     closed = c;
-    own-text = λ j. record { in-term = refl; at-place = refl; itself = refl; unlifted = refl; no-copies = refl; tops = refl };
+    own-text = λ j. record { in-term = refl; at-place = refl; itself = refl; unlifted = refl; no-copies = refl; tops = refl; low = own-low z i; packed = omega (arith, own .packed) };
     met = λ j. no-confusion (sym j);
     inner = λ j. no-confusion j;
     reached = reached-turned 1 (z .reached);
@@ -128,21 +131,24 @@ module _ {x : Text} {m : Arrays} {f : FrameRecord} {s : WalkState} {R : Frame} {
   checked-at : stateFits (stateOf (s .own) R W Q B) ≡ true → {m′ : Arrays} {next comparisons : ℕ} {q : Progress} → Keeps m m′ (f .len) (f .end) (s .top) → Reached (x .file) next comparisons q
       → StateAt x m′ f (checkedOf s next comparisons) R W Q B q
   checked-at fits {m′} k r = record {
-    term-short = z .term-short;
-    stored = stored-agree (z .stored) (k .work-below) (k .work-long);
-    sound = z .sound;
-    notes = notes-keep (k .work-below) (omega (arith, k .work-long, z .stored .inside)) (omega arith) (k .domains-below) (k .origins-below) (z .notes);
-    domains-long = k .domains-long ∙ z .domains-long;
-    origins-long = k .origins-long ∙ z .origins-long;
-    waits = queue-keep (k .list-below) (queue-base (z .copies)) (z .waits);
-    copies = no-queue (own .no-copies) (sym (own .tops));
-    listed = omega (arith, k .list-long, z .listed);
-    few-waiting = z .few-waiting;
-    place-bound = z .place-bound;
-    size-is = z .size-is;
-    scope-is = z .scope-is;
-    size-bound = z .size-bound;
-    scope-bound = z .scope-bound;
+    held = record {
+      term-short = z .held .term-short;
+      stored = stored-agree (z .held .stored) (k .work-below) (k .work-long);
+      sound = z .held .sound;
+      notes = notes-keep (k .work-below) (omega (arith, k .work-long, z .held .stored .inside)) (omega arith) (k .domains-below) (k .origins-below) (z .held .notes);
+      domains-long = k .domains-long ∙ z .held .domains-long;
+      origins-long = k .origins-long ∙ z .held .origins-long;
+      waits = queue-keep (k .list-below) (queue-base (z .held .copies)) (z .held .waits);
+      kept = kept-through (m .list) (z .held .kept) (agree-part (k .list-below) (omega arith) (omega (arith, own .tops))) (agree-part (k .work-above) (omega (arith, ap (lowOf (m .list)) (own .tops))) (omega arith)) (z .held .stored .work) (k .work-long) (k .reach-grows);
+      copies = no-queue (own .no-copies) (sym (own .tops));
+      listed = omega (arith, k .list-long, z .held .listed);
+      few-waiting = z .held .few-waiting;
+      place-bound = z .held .place-bound;
+      size-is = z .held .size-is;
+      scope-is = z .held .scope-is;
+      size-bound = z .held .size-bound;
+      scope-bound = z .held .scope-bound;
+    };
     text = z .text;
     end = z .end;
     stands = same-source (s .«in_term») (x .term) (m .work) (m′ .work) (own .in-term) (z .stands);
@@ -152,7 +158,16 @@ module _ {x : Text} {m : Arrays} {f : FrameRecord} {s : WalkState} {R : Frame} {
     shift-bound = z .shift-bound;
     cut-bound = z .cut-bound;
     closed = z .closed;
-    own-text = λ j. record { in-term = own .in-term; at-place = own .at-place; itself = own .itself; unlifted = own .unlifted; no-copies = own .no-copies; tops = own .tops };
+    own-text = λ j. record {
+      in-term = own .in-term;
+      at-place = own .at-place;
+      itself = own .itself;
+      unlifted = own .unlifted;
+      no-copies = own .no-copies;
+      tops = own .tops;
+      low = omega (arith, own .low, low-same (s .bottom) (k .list-below) (omega (arith, queue-base (z .held .waits), own .tops)));
+      packed = omega (arith, own .packed, low-same (s .top) (k .list-below) (omega arith));
+    };
     met = λ j. no-confusion (sym j ∙ i);
     inner = λ j. record { is-own = i; wagon = h; fitted = fits };
     reached = r;
@@ -203,10 +218,12 @@ then-not h o (says-never a) = says-never a
 then-not h o (says-full a b) = says-full a b
 
 -- what is kept by one after the other
-keeps-both : {m m′ m″ : Arrays} {len len′ end end′ bottom bottom′ : ℕ} → len ≤ len′ → end ≤ end′ → bottom ≤ bottom′ → Keeps m m′ len end bottom → Keeps m′ m″ len′ end′ bottom′ → Keeps m m″ len end bottom
-keeps-both i j k a b = record {
+keeps-both : {m m′ m″ : Arrays} {len len′ end end′ bottom bottom′ : ℕ} → len ≤ len′ → end ≤ end′ → bottom ≤ bottom′ → lowOf (m′ .list) bottom′ ≤ lowOf (m′ .list) bottom → Keeps m m′ len end bottom → Keeps m′ m″ len′ end′ bottom′ → Keeps m m″ len end bottom
+keeps-both {m} {m′} {bottom = bottom} i j k l a b = record {
   work-long = b .work-long;
   work-below = agree-trans (a .work-below) (agree-part (b .work-below) (omega arith) j);
+  work-above = agree-trans (agree-part (a .work-above) (omega (arith, b .reach-grows)) (omega arith)) (agree-part (b .work-above) (omega (arith, low-same bottom (a .list-below) (omega arith))) (omega arith));
+  reach-grows = omega (arith, a .reach-grows, b .reach-grows);
   list-long = b .list-long ∙ a .list-long;
   list-below = agree-trans (a .list-below) (agree-part (b .list-below) (omega arith) (omega arith));
   domains-long = b .domains-long ∙ a .domains-long;
@@ -232,7 +249,7 @@ module _ {x : Text} {m₀ : Arrays} {f₀ : FrameRecord} {s₀ : WalkState} {m :
 
   module _ {m′ : Arrays} {a b : List ℕ} {r : Turned} (t : Settles x m m′ f s a b r) where
     kept : Keeps m₀ m′ (f₀ .len) (f₀ .end) (s₀ .bottom)
-    kept = keeps-both (g .len-grown) (g .end-grown) (omega (arith, g .same-bottom)) (g .keeps) (t .keeps)
+    kept = keeps-both (g .len-grown) (g .end-grown) (omega (arith, g .same-bottom)) (omega (arith, ap (lowOf (m .list)) (g .same-bottom))) (g .keeps) (t .keeps)
 
     becomes : (R : Frame) (W Q : List Waiting) (B : Term) (p : Progress) → StateAt x m₀ f₀ s₀ R W Q B p → (y : Run) × (n : ℕ) × Becomes x m′ f s a b r n y × (finish (agendaOf (s₀ .checked) (s₀ .own) (s₀ .place) R W Q B) p ≡ y)
     becomes R W Q B p z = let n = g .all R W Q B p z in (_, _, t .all (n .frame) (n .ww) (n .qq) (n .body) (n .progress) (n .at), n .same)
@@ -317,8 +334,14 @@ module _ {x : Text} {m₀ : Arrays} {f₀ : FrameRecord} {s₀ : WalkState} {m :
       inner-due = let d = first-due in record { stated = record { frame = d .frame; ww = d .ww; qq = d .qq; body = d .body; progress = d .progress; at = d .due .at }; is-own = d .due .is-own; high = d .due .high }
 
       module _ {m″ : Arrays} {c d : List ℕ} {q : Walked} (k : Checks x m′ m″ f (innerOf s) c d q) where
+        lower : lowOf (m′ .list) (s .top) ≤ lowOf (m′ .list) (s₀ .bottom)
+        lower =
+            let z = first-due .due .at in
+            let o = z .own-text (first-due .due .is-own) in
+            omega (arith, descends (m′ .list) (z .held .kept) (s .top) (s .bottom) (omega arith) (omega (arith, queue-base (z .held .waits), o .tops)) (omega (arith, o .tops)), ap (lowOf (m′ .list)) (g .same-bottom))
+
         kept-inside : Keeps m₀ m″ (f₀ .len) (f₀ .end) (s₀ .bottom)
-        kept-inside = keeps-both (g .len-grown) (g .end-grown) (omega (arith, g .same-bottom, queue-base (first-due .due .at .waits), queue-base (first-due .due .at .copies))) kept (k .keeps)
+        kept-inside = keeps-both (g .len-grown) (g .end-grown) (omega (arith, g .same-bottom, queue-base (first-due .due .at .held .waits), queue-base (first-due .due .at .held .copies))) lower kept (k .keeps)
 
         inner-says : {v : Run} (u : SomeDue v) → (y : Run) × Says (x .file) (length (m′ .list)) c d q y × (v ≡ andThen y (finish (restOf (s .own) (s .place) (u .frame) (u .ww) (u .qq) (u .body))))
         unfolding agendaOf
@@ -433,7 +456,7 @@ module _ {x : Text} {m₀ : Arrays} {f₀ : FrameRecord} {s₀ : WalkState} {m :
   on-bounds i =
       let z = now-stated (on-entered i) .at in
       let y = now-stated g .at in
-      (omega (arith, y .stored .inside), omega (arith, z .stored .few))
+      (omega (arith, y .held .stored .inside), omega (arith, z .held .stored .few))
 
 -- what stands inside a wagon, as a state of its own
 pub inner-stated : {x : Text} {m : Arrays} {f : FrameRecord} {s : WalkState} → InnerAt x m f s → Stated x m f (innerOf s)
@@ -454,11 +477,11 @@ inner-stated {x} {m} {f} {s} g = go (cmp (getD (x .term) (s .place) 0) 0xfe)
         record { frame = _; ww = []; qq = []; body = t .one; progress = _; at = inner-at z (g .is-own) (g .high) (t .first) (abs-inside (rw (is-text z (g .is-own) (g .high) ∙ t .is) at (z .closed))) }
 
 pub inner-place : {x : Text} {m : Arrays} {f : FrameRecord} {s : WalkState} → InnerAt x m f s → s .place < longestTerm
-inner-place g = omega (arith, g .stated .at .place-bound, g .stated .at .term-short)
+inner-place g = omega (arith, g .stated .at .held .place-bound, g .stated .at .held .term-short)
 
 -- the cycle's number falls
 pub inside-falls : {x : Text} {m₀ : Arrays} {f₀ : FrameRecord} {s₀ : WalkState} {m : Arrays} {f : FrameRecord} {s : WalkState} → Going x m₀ f₀ s₀ m f s → degreeAndSize (x .term) (s .place + 1) < degreeAndSize (x .term) (s₀ .place)
-inside-falls {x} {s₀ = s₀} {s = s} g = falls-on (x .term) (s₀ .place) (s .place) (g .further) (g .start .at .place-bound)
+inside-falls {x} {s₀ = s₀} {s = s} g = falls-on (x .term) (s₀ .place) (s .place) (g .further) (g .start .at .held .place-bound)
 
 -- ---- After a comparison.
 module _ {x : Text} {m₀ : Arrays} {f₀ : FrameRecord} {s₀ : WalkState} {m : Arrays} {f : FrameRecord} {s : WalkState} (g : Going x m₀ f₀ s₀ m f s) {m′ : Arrays} {a b : List ℕ} {r : Turned} (h : r .kind ≡ 3) (t : Turns x m m′ f s a b r)

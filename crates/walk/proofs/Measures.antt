@@ -76,7 +76,7 @@ pub falling-is : {x : Text} {m : Arrays} {f : FrameRecord} {s : WalkState} {R : 
     → falling x m f s ≡ (let n = statesOf (stateOf (s .own) R W Q B) in cond (s .checked) (n + n) (suc (n + n)))
 unfolding falling twice
 falling-is {s = s} {R = R} {W = W} {Q = Q} {B = B} z =
-    ap (twice (s .checked)) (ap₂ (statesBy (s .own)) (states-in (z .notes)) (ap (lift (s .shift) (s .cut)) (term-at (z .stands)) ∙ sym (z .seen)) ∙ by-states (s .own) R W Q B)
+    ap (twice (s .checked)) (ap₂ (statesBy (s .own)) (states-in (z .held .notes)) (ap (lift (s .shift) (s .cut)) (term-at (z .stands)) ∙ sym (z .seen)) ∙ by-states (s .own) R W Q B)
 
 -- ---- Each rule leads to fewer.
 pub fewer-met : (R : Frame) (W : List Waiting) (k : ℕ) → suc (statesOf (stateOf false R W [] (var k))) ≤ statesOf (stateOf true R W [] (var k))

@@ -28,7 +28,8 @@ use Rattle.texts.proofs.Origins.{origin-inside}
 use Rattle.verdict.specs.Bounds.{frameScope, waitingSize, waitingScope, stateSize, stateScope, stateFits}
 use Rattle.verdict.specs.Verdict.{Progress, turned}
 use Rattle.verdict.proofs.Runs.{cond-both}
-use Rattle.waiting.specs.Waiting.{Waiting, termsOf}
+use Rattle.waiting.specs.Waiting.{Waiting, termsOf, lowOf}
+use Rattle.waiting.proofs.Queues.{queue-base, descends}
 use Rattle.walk.specs.State.{Text, Arrays, Sound, sound-empty, sound-single, sound-pair, Notes, no-notes, one-note, Reached, stateOf, OwnText, StateAt}
 use Rattle.walk.specs.Contracts.{within}
 use Rattle.walk.specs.declared.WalkState.{WalkState}
@@ -81,12 +82,16 @@ notes-keep {m = m} {m′ = m′} a l h d o (one-note {j = j} {e = e} {x = x} q r
     one-note {e = e} {x = x} q (notes-keep a l h (agree-part d (omega arith) (omega arith)) (agree-part o (omega arith) (omega arith)) r)
     (rw u (stands-agree s (agree-part a (omega arith) i) (omega arith))) (omega arith) (rw v g)
 
+-- the arrays with one more entry, whose bytes end at e
+abbrev pub entryArrays : Arrays → List ℕ → (n at origin e : ℕ) → Arrays
+entryArrays m w n at origin e = record { work = w; list = m .list; domains = set (m .domains) n at; origins = set (m .origins) n origin; reach = max (m .reach) e }
+
 -- an entry noted
-pub notes-push : {t : List ℕ} {m : Arrays} {w : List ℕ} {limit limit′ n e at origin : ℕ} {R : Frame} {x : Entry} → Agree (m .work) w 0 limit → limit ≤ length w → limit ≤ limit′ → n < length (m .domains) → n < length (m .origins)
+pub notes-push : (k : ℕ) {t : List ℕ} {m : Arrays} {w : List ℕ} {limit limit′ n e at origin : ℕ} {R : Frame} {x : Entry} → Agree (m .work) w 0 limit → limit ≤ length w → limit ≤ limit′ → n < length (m .domains) → n < length (m .origins)
     → Notes t m limit n R → Stands w at e (domain x) → e ≤ limit′ → Origin t origin (domain x)
-    → Notes t (record { work = w; list = m .list; domains = set (m .domains) n at; origins = set (m .origins) n origin }) limit′ (n + 1) (R ▹ x)
-notes-push {t} {m} {w} {n = n} {e = k} {at = at} {origin = origin} {x = x} a l h i j d s e o =
-    one-note {n = n + 1} {j = n} {e = k} {x = x} (omega arith) (notes-keep a l h (agree-set (m .domains) n at (omega arith)) (agree-set (m .origins) n origin (omega arith)) d)
+    → Notes t (entryArrays m w n at origin k) limit′ (n + 1) (R ▹ x)
+notes-push k {t} {m} {w} {n = n} {e = u} {at = at} {origin = origin} {x = x} a l h i j d s e o =
+    one-note {n = n + 1} {j = n} {e = u} {x = x} (omega arith) (notes-keep a l h (agree-set (m .domains) n at (omega arith)) (agree-set (m .origins) n origin (omega arith)) d)
     (rw (getD-set-same (m .domains) n at 0 i) s) e (rw (getD-set-same (m .origins) n origin 0 j) o)
 
 -- ---- How far a check has come.
@@ -117,8 +122,12 @@ module _ {x : Text} {m : Arrays} {f : FrameRecord} {s : WalkState} {R : Frame} {
   pub body-scope : scope B ≡ scope (z .text)
   body-scope = ap scope (z .seen) ∙ scope-lift (s .shift) (s .cut) (z .text)
 
+  -- where the bytes of what waits begin
+  pub own-low : s .own ≡ true → lowOf (m .list) (s .top) ≤ longestState
+  own-low i = let t = z .own-text i in omega (arith, t .low, descends (m .list) (z .held .kept) (s .top) (s .bottom) (omega arith) (omega (arith, queue-base (z .held .waits), t .tops)) (omega (arith, t .tops)))
+
   pub origin-bound : s .origin + size B ≤ longestTerm
-  origin-bound = omega (arith, body-size, origin-inside (z .origin), z .term-short)
+  origin-bound = omega (arith, body-size, origin-inside (z .origin), z .held .term-short)
 
   pub state-fits : stateFits (stateOf (s .own) R W Q B) ≡ within (f .end + (s .size + size B)) (f .len + max (s .scope) (scope B))
   unfolding stateOf stateFits stateSize stateScope waitingSize waitingScope termsOf
@@ -129,13 +138,13 @@ module _ {x : Text} {m : Arrays} {f : FrameRecord} {s : WalkState} {R : Frame} {
           let q : Q ≡ [] = z .own-text e .no-copies in
           let i : waitingSize (termsOf Q) ≡ 0 = ap (λ l. waitingSize (termsOf l)) q in
           let j : waitingScope (termsOf Q) ≡ 0 = ap (λ l. waitingScope (termsOf l)) q in
-          let k : f .end + (waitingSize (termsOf W) + size B) ≡ f .end + (s .size + size B) = omega (arith, z .size-is) in
-          rw (stored-size (z .stored), stored-depth (z .stored)) (same-cond (ap (λ n. leb n longestState) k)
-          (same-leb (max (frameScope R) (f .len + max (waitingScope (termsOf W)) (scope B))) (f .len + max (s .scope) (scope B)) mostAbstractors (λ h. omega (arith, z .scope-is)) (λ h. omega (arith, z .scope-is, sound-scope (z .sound)))))
+          let k : f .end + (waitingSize (termsOf W) + size B) ≡ f .end + (s .size + size B) = omega (arith, z .held .size-is) in
+          rw (stored-size (z .held .stored), stored-depth (z .held .stored)) (same-cond (ap (λ n. leb n longestState) k)
+          (same-leb (max (frameScope R) (f .len + max (waitingScope (termsOf W)) (scope B))) (f .len + max (s .scope) (scope B)) mostAbstractors (λ h. omega (arith, z .held .scope-is)) (λ h. omega (arith, z .held .scope-is, sound-scope (z .held .sound)))))
       by-text false e =
-          let k : f .end + (waitingSize (termsOf W) + (waitingSize (termsOf Q) + size B)) ≡ f .end + (s .size + size B) = omega (arith, z .size-is) in
-          rw (stored-size (z .stored), stored-depth (z .stored)) (same-cond (ap (λ n. leb n longestState) k)
-          (same-leb (max (frameScope R) (f .len + max (waitingScope (termsOf W)) (max (waitingScope (termsOf Q)) (scope B)))) (f .len + max (s .scope) (scope B)) mostAbstractors (λ h. omega (arith, z .scope-is)) (λ h. omega (arith, z .scope-is, sound-scope (z .sound)))))
+          let k : f .end + (waitingSize (termsOf W) + (waitingSize (termsOf Q) + size B)) ≡ f .end + (s .size + size B) = omega (arith, z .held .size-is) in
+          rw (stored-size (z .held .stored), stored-depth (z .held .stored)) (same-cond (ap (λ n. leb n longestState) k)
+          (same-leb (max (frameScope R) (f .len + max (waitingScope (termsOf W)) (max (waitingScope (termsOf Q)) (scope B)))) (f .len + max (s .scope) (scope B)) mostAbstractors (λ h. omega (arith, z .held .scope-is)) (λ h. omega (arith, z .held .scope-is, sound-scope (z .held .sound)))))
 
   pub room : stateFits (stateOf (s .own) R W Q B) ≡ true → Room f s B
   room h =

@@ -26,7 +26,7 @@ use Rattle.verdict.specs.Bounds.{stateFits, waitingSize, waitingScope}
 use Rattle.verdict.specs.Verdict.{something-waits, not-reached, Progress, Run, passed, stopped, turned, finish}
 use Rattle.waiting.specs.Waiting.{Waiting, termsOf, places, slotOf}
 use Rattle.waiting.proofs.Texts.{positive, text-tau, Variable, text-var, Two, text-app, text-abs, text-in}
-use Rattle.waiting.proofs.Queues.{queue-empty, queue-base, queue-length, queue-count, Last, queue-last}
+use Rattle.waiting.proofs.Queues.{queue-empty, queue-base, queue-length, queue-count, Last, queue-last, descends}
 use Rattle.walk.specs.State.{Text, Arrays, stateOf, restOf, agendaOf, OwnText, StateAt, Stated}
 use Rattle.walk.specs.Contracts.{within, answering, going, metOf, typedOf, pastOf, Halts, halts-waiting, halts-outgrown, Says, says-passed, says-stopped, says-never, says-full, Becomes, becomes-answer, becomes-state, becomes-inner, Comes, comes-now, Keeps, Onward, WagonAt, AbstractorAt, SizesKnown, Wagons, Turns, Known, TestAs, test-made, test-is, DueAs, due-first, not-due, TauTurn, tau-never, tau-passes, tau-waits, slotFor, WaitReady, WaitTurn, wait-full, wait-goes, InnerAt}
 use Rattle.walk.specs.declared.WalkState.{WalkState}
@@ -34,7 +34,7 @@ use Rattle.walk.specs.declared.Turned.{Turned}
 use Rattle.walk.proofs.Rules.{run-outgrown, run-tau-passes, run-tau-waits, run-tau-never, run-met, run-typed, run-copied-app, run-copied-abs}
 use Rattle.walk.proofs.Measures.{fewer-met, fewer-typed}
 use Rattle.walk.proofs.States.{no-confusion, sound-closed, Meant, meant, reached-turned, Room, body-size, body-scope, origin-bound, state-fits, room}
-use Rattle.walk.proofs.Waits.{listed, two-app, origins-app, wait-ready, nextApp, app-becomes, full-short}
+use Rattle.walk.proofs.Waits.{asideArrays, two-app, origins-app, wait-ready, aside-same, nextApp, app-becomes, full-short}
 
 pub is-false : (b : Bool) → not b ≡ true → b ≡ false
 is-false true e = sym e
@@ -46,7 +46,7 @@ is-true false e = sym e
 
 -- nothing written
 pub keeps-all : {x : Text} {m : Arrays} {f : FrameRecord} {s : WalkState} → Stated x m f s → {len end bottom : ℕ} → Keeps m m len end bottom
-keeps-all g = record { work-long = g .at .stored .work; work-below = agree-refl; list-long = refl; list-below = agree-refl; domains-long = refl; domains-below = agree-refl; origins-long = refl; origins-below = agree-refl }
+keeps-all g = record { work-long = g .at .held .stored .work; work-below = agree-refl; work-above = agree-refl; reach-grows = omega arith; list-long = refl; list-below = agree-refl; domains-long = refl; domains-below = agree-refl; origins-long = refl; origins-below = agree-refl }
 
 becomes-at : {x : Text} {m : Arrays} {f : FrameRecord} {s : WalkState} {a b : List ℕ} {r : Turned} {n : ℕ} {v w : Run} → v ≡ w → Becomes x m f s a b r n w → Becomes x m f s a b r n v
 becomes-at e h = rw e h
@@ -57,21 +57,7 @@ comes-at e h = rw e h
 -- the same state a turn later
 pub later : {x : Text} {m : Arrays} {f : FrameRecord} {s : WalkState} {R : Frame} {W Q : List Waiting} {B : Term} {p : Progress} → StateAt x m f s R W Q B p → StateAt x m f s R W Q B (turned 1 p)
 later z = record {
-  term-short = z .term-short;
-  stored = z .stored;
-  sound = z .sound;
-  notes = z .notes;
-  domains-long = z .domains-long;
-  origins-long = z .origins-long;
-  waits = z .waits;
-  copies = z .copies;
-  listed = z .listed;
-  few-waiting = z .few-waiting;
-  place-bound = z .place-bound;
-  size-is = z .size-is;
-  scope-is = z .scope-is;
-  size-bound = z .size-bound;
-  scope-bound = z .scope-bound;
+  held = z .held;
   text = z .text;
   end = z .end;
   stands = z .stands;
@@ -135,10 +121,10 @@ module _ {x : Text} {m : Arrays} {f : FrameRecord} {s : WalkState} {sizes scopes
   origin-in g = let z = g .at in (omega (arith, origin-inside (z .origin), positive (z .text), k .sizes-long), omega (arith, origin-inside (z .origin), positive (z .text), k .scopes-long))
 
 pub fits-bounds : {x : Text} {m : Arrays} {f : FrameRecord} {s : WalkState} → Stated x m f s → (s .size < 65536) × (s .scope < 65536) × (f .len < 65536) × (f .end < 65536)
-fits-bounds g = let z = g .at in (omega (arith, z .size-bound), omega (arith, z .scope-bound), omega (arith, z .stored .few), omega (arith, z .stored .inside))
+fits-bounds g = let z = g .at in (omega (arith, z .held .size-bound), omega (arith, z .held .scope-bound), omega (arith, z .held .stored .few), omega (arith, z .held .stored .inside))
 
 pub symbol-in : {x : Text} {m : Arrays} {f : FrameRecord} {s : WalkState} → Stated x m f s → (s .from < length (cond (s .«in_term») (x .term) (m .work))) × (length (m .work) ≡ longestState)
-symbol-in g = (text-in (g .at .stands), g .at .stored .work)
+symbol-in g = (text-in (g .at .stands), g .at .held .stored .work)
 
 tau-kind : {q : List ℕ} {s : WalkState} {r : Turned} → TauTurn q s r → r .kind ≡ 3 → ⊥
 tau-kind (tau-never i) e = omega arith
@@ -171,7 +157,7 @@ module _ {x : Text} {m : Arrays} {f : FrameRecord} {s : WalkState} (g : Stated x
         → Becomes x m f s a b r n (finish (agendaOf false (s .own) (s .place) R W Q B) p)
     unfolding turned places
     says-answer {R} {W} {Q} {B} {p} z fits a b (tau-never i) =
-        let l = queue-last (z .copies) (λ e. omega arith) in
+        let l = queue-last (z .held .copies) (λ e. omega arith) in
         becomes-at (never (s .own) not-own (is-tau z) (l .is) fits) (becomes-answer refl (says-never refl))
       where
         not-own : s .own ≡ false
@@ -185,18 +171,18 @@ module _ {x : Text} {m : Arrays} {f : FrameRecord} {s : WalkState} (g : Stated x
             → finish (agendaOf false b (s .place) R W Q B) p ≡ stopped (not-reached (s .place)) (turned 1 p)
         never b {w = w} {Q′ = Q′} c d e f = rw (c, d, e) (run-tau-never (s .place) R W w Q′ p (rw (c, d, e) at f))
     says-answer {R} {W} {Q} {B} {p} z fits a b (tau-passes i j) =
-        let t : Q ≡ [] = queue-empty (z .copies) (omega (arith, queue-base (z .copies))) in
-        let w : W ≡ [] = queue-empty (z .waits) (omega (arith, queue-base (z .copies), queue-base (z .waits))) in
+        let t : Q ≡ [] = queue-empty (z .held .copies) (omega (arith, queue-base (z .held .copies))) in
+        let w : W ≡ [] = queue-empty (z .held .waits) (omega (arith, queue-base (z .held .copies), queue-base (z .held .waits))) in
         becomes-at (passes (s .own) (is-tau z) w t fits) (becomes-answer refl (says-passed refl (reached-turned 1 (z .reached))))
       where
         passes : (b : Bool) {W Q : List Waiting} {B : Term} → B ≡ tau → W ≡ [] → Q ≡ [] → stateFits (stateOf b R W Q B) ≡ true → finish (agendaOf false b (s .place) R W Q B) p ≡ passed (turned 1 p)
         passes b c d e f = rw (c, d, e) (run-tau-passes b (s .place) R p (rw (c, d, e) at f))
     says-answer {R} {W} {Q} {B} {p} z fits a b (tau-waits i j) =
-        let t : Q ≡ [] = queue-empty (z .copies) (omega (arith, queue-base (z .copies))) in
-        let l = queue-last (z .waits) (λ e. j (omega (arith, queue-base (z .copies)))) in
-        let k : s .top ≡ s .middle = omega (arith, queue-base (z .copies)) in
+        let t : Q ≡ [] = queue-empty (z .held .copies) (omega (arith, queue-base (z .held .copies))) in
+        let l = queue-last (z .held .waits) (λ e. j (omega (arith, queue-base (z .held .copies)))) in
+        let k : s .top ≡ s .middle = omega (arith, queue-base (z .held .copies)) in
         let v : slotOf (m .list) (s .top - 1) .place ≡ l .last .place = ap (λ i. slotOf (m .list) (i - 1) .place) k ∙ sym (l .slot .is-place) in
-        let n : s .top - s .bottom ≡ length (places W) = omega (arith, queue-count (z .waits)) in
+        let n : s .top - s .bottom ≡ length (places W) = omega (arith, queue-count (z .held .waits)) in
         becomes-at (waits (s .own) (is-tau z) (l .is) t fits) (becomes-answer refl (says-stopped (halts-waiting refl v (n ∙ ap (λ k. length (places k)) (l .is)) refl refl) (sym (z .reached .counted))))
       where
         waits : (b : Bool) {W Q : List Waiting} {B : Term} {w : Waiting} {W′ : List Waiting} → B ≡ tau → W ≡ w ∷ W′ → Q ≡ [] → stateFits (stateOf b R W Q B) ≡ true
@@ -214,21 +200,7 @@ module _ {x : Text} {m : Arrays} {f : FrameRecord} {s : WalkState} (g : Stated x
     -- (vii)
     met-state : {R : Frame} {W Q : List Waiting} {B : Term} {p : Progress} → StateAt x m f s R W Q B p → StateAt x m f (metOf s) R W Q B (turned 1 p)
     met-state z = record {
-      term-short = z .term-short;
-      stored = z .stored;
-      sound = z .sound;
-      notes = z .notes;
-      domains-long = z .domains-long;
-      origins-long = z .origins-long;
-      waits = z .waits;
-      copies = z .copies;
-      listed = z .listed;
-      few-waiting = z .few-waiting;
-      place-bound = z .place-bound;
-      size-is = z .size-is;
-      scope-is = z .scope-is;
-      size-bound = z .size-bound;
-      scope-bound = z .scope-bound;
+      held = z .held;
       text = z .text;
       end = z .end;
       stands = z .stands;
@@ -271,35 +243,21 @@ module _ {x : Text} {m : Arrays} {f : FrameRecord} {s : WalkState} (g : Stated x
           go (closed-var i j) = (i, j)
 
       pub index-bounds : (1 ≤ k) × (k ≤ f .len) × (f .len ≤ mostAbstractors)
-      index-bounds = let i = index-in (g .at) in (i .0, i .1, g .at .stored .few)
+      index-bounds = let i = index-in (g .at) in (i .0, i .1, g .at .held .stored .few)
 
       typed-state : {R : Frame} {W Q : List Waiting} {B : Term} {p : Progress} (z : StateAt x m f s R W Q B p) (t : Meant (x .term) m (f .end) (f .len) k R)
           → StateAt x m f (typedOf s k (getD (m .domains) (f .len - k) 0) (getD (m .origins) (f .len - k) 0)) R W Q (lift k 0 (domain (t .entry))) (turned 1 p)
       typed-state z t = record {
-        term-short = z .term-short;
-        stored = z .stored;
-        sound = z .sound;
-        notes = z .notes;
-        domains-long = z .domains-long;
-        origins-long = z .origins-long;
-        waits = z .waits;
-        copies = z .copies;
-        listed = z .listed;
-        few-waiting = z .few-waiting;
-        place-bound = z .place-bound;
-        size-is = z .size-is;
-        scope-is = z .scope-is;
-        size-bound = z .size-bound;
-        scope-bound = z .scope-bound;
+        held = z .held;
         text = domain (t .entry);
         end = t .end;
         stands = t .stands;
         inside = λ i. t .inside;
         origin = t .origin;
         seen = refl;
-        shift-bound = omega (arith, index-in z .1, z .stored .few);
+        shift-bound = omega (arith, index-in z .1, z .held .stored .few);
         cut-bound = omega arith;
-        closed = rw (stored-depth (z .stored)) at (domain-at k (domains (sound-closed (z .sound))) (t .means));
+        closed = rw (stored-depth (z .held .stored)) at (domain-at k (domains (sound-closed (z .held .sound))) (t .means));
         own-text = λ i. no-confusion i;
         met = λ i j. no-confusion j;
         inner = λ i. no-confusion i;
@@ -311,7 +269,7 @@ module _ {x : Text} {m : Arrays} {f : FrameRecord} {s : WalkState} (g : Stated x
         keeps = keeps-all g;
         onward = record { end-grows = omega arith; len-grows = omega arith; same-bottom = refl; further = omega arith };
         all = λ R W Q B p z.
-            let t = meant k (z .notes) (index-in z .0) (index-in z .1) in
+            let t = meant k (z .held .notes) (index-in z .0) (index-in z .1) in
             comes-now (becomes-at (agenda-is z) (becomes-state refl (typed-state z t) refl (fewer (s .own) R W Q i (t .means) (var-is z e)) (run (s .own) R W Q p i (t .means) (var-is z e) (fit R W Q B p z)))) (λ e. omega arith);
       }
         where
@@ -371,38 +329,43 @@ module _ {x : Text} {m : Arrays} {f : FrameRecord} {s : WalkState} (g : Stated x
     applied-scope : {R : Frame} {W Q : List Waiting} {B : Term} {p : Progress} (z : StateAt x m f s R W Q B p) → y ≡ scope (two-app z h .one)
     applied-scope z = j ∙ origin-scope (k .sized) (origins-app z h .0)
 
-    pub ready-to-wait : WaitReady (f .len) s n
+    pub ready-to-wait : WaitReady (x .term) (m .work) (m .list) (f .len) s n
     ready-to-wait = let z = g .at in wait-ready z h (room z (fit _ _ _ _ _ z)) (applied-size z)
 
-    waited : {q : List ℕ} {r : Turned} (a b : List ℕ) → WaitTurn (m .list) q (f .len) s n y r → Wagons x m (listed m q) f s a b r
-    waited a b (wait-full e l) = record {
-      keeps = list-same e (keeps-all g);
+    waited : {w q : List ℕ} {r : Turned} (a b : List ℕ) → WaitTurn (x .term) (m .work) w (m .list) q (f .len) s n y r → Wagons x m (asideArrays m w q) f s a b r
+    waited a b (wait-full i e l) = record {
+      keeps = all-same i e (keeps-all g);
       onward = record { end-grows = omega arith; len-grows = omega arith; same-bottom = refl; further = omega arith };
       all = λ R W Q B p z. comes-now (becomes-answer refl (says-full refl (omega (arith, ap length e, full-short z h (room z (fit R W Q B p z)) l)))) (λ i. omega arith);
     }
       where
-        list-same : {q : List ℕ} → q ≡ m .list → Keeps m m (f .len) (f .end) (s .bottom) → Keeps m (listed m q) (f .len) (f .end) (s .bottom)
-        list-same e t = record { work-long = t .work-long; work-below = t .work-below; list-long = ap length e; list-below = rw e agree-refl; domains-long = refl; domains-below = agree-refl; origins-long = refl; origins-below = agree-refl }
-    waited a b (wait-goes l d) = record {
-      keeps = let t = keeps-all g {len = f .len} {end = f .end} {bottom = s .bottom} in record {
-        work-long = t .work-long;
-        work-below = t .work-below;
-        list-long = d .same-length;
-        list-below = agree-part (d .below) (omega arith) (omega (arith, queue-base (g .at .waits), queue-base (g .at .copies)));
-        domains-long = refl;
-        domains-below = agree-refl;
-        origins-long = refl;
-        origins-below = agree-refl;
-      };
+        all-same : {w q : List ℕ} → w ≡ m .work → q ≡ m .list → Keeps m m (f .len) (f .end) (s .bottom) → Keeps m (asideArrays m w q) (f .len) (f .end) (s .bottom)
+        all-same i e t = rw (i, e) t
+    waited {w} {q} a b (wait-goes l o d) = record {
+      keeps =
+          let z = g .at in
+          let t = aside-same z h (room z (fit _ _ _ _ _ z)) (applied-size z) (applied-scope z) o d l in
+          record {
+            work-long = t .0;
+            work-below = t .1;
+            work-above = agree-part (t .2) (omega (arith, descends (m .list) (z .held .kept) (s .middle) (s .bottom) (omega arith) (queue-base (z .held .waits)) (omega arith))) (omega arith);
+            reach-grows = omega arith;
+            list-long = d .same-length;
+            list-below = agree-part (d .below) (omega arith) (omega (arith, queue-base (z .held .waits), queue-base (z .held .copies)));
+            domains-long = refl;
+            domains-below = agree-refl;
+            origins-long = refl;
+            origins-below = agree-refl;
+          };
       onward = record { end-grows = omega arith; len-grows = omega arith; same-bottom = refl; further = place-later (s .own) refl };
-      all = λ R W Q B p z. comes-now (app-becomes z h (room z (fit R W Q B p z)) (applied-size z) (applied-scope z) d l a b) (λ i. omega arith);
+      all = λ R W Q B p z. comes-now (app-becomes z h (room z (fit R W Q B p z)) (applied-size z) (applied-scope z) o d l a b) (λ i. omega arith);
     }
       where
         place-later : (b : Bool) → s .own ≡ b → s .place ≤ cond b (s .from + 1 + n) (s .place)
         place-later true e = omega (arith, g .at .own-text e .at-place)
         place-later false e = omega arith
 
-    pub turns-wait : {q : List ℕ} {r : Turned} (a b : List ℕ) → (s .own ≡ true → s .checked ≡ true) → WaitTurn (m .list) q (f .len) s n y r → Turns x m (listed m q) f s a b r
+    pub turns-wait : {w q : List ℕ} {r : Turned} (a b : List ℕ) → (s .own ≡ true → s .checked ≡ true) → WaitTurn (x .term) (m .work) w (m .list) q (f .len) s n y r → Turns x m (asideArrays m w q) f s a b r
     turns-wait a b due w = turns-wagon due (waited a b w)
 
   -- [U]
@@ -445,7 +408,7 @@ tau-onward (tau-passes i j) = record { end-grows = omega arith; len-grows = omeg
 tau-onward (tau-waits i j) = record { end-grows = omega arith; len-grows = omega arith; same-bottom = refl; further = omega arith }
 
 pub tau-ready : {x : Text} {m : Arrays} {f : FrameRecord} {s : WalkState} → Stated x m f s → (s .bottom ≤ s .top) × (6 * s .top ≤ length (m .list))
-tau-ready g = (omega (arith, queue-base (g .at .waits), queue-base (g .at .copies)), g .at .listed)
+tau-ready g = (omega (arith, queue-base (g .at .held .waits), queue-base (g .at .held .copies)), g .at .held .listed)
 
 pub origin-small : {x : Text} {m : Arrays} {f : FrameRecord} {s : WalkState} → Stated x m f s → s .origin < longestTerm
 origin-small g = omega (arith, origin-bound (g .at), positive (g .body))

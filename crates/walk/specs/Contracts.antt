@@ -21,7 +21,8 @@ use Rattle.compare.specs.declared.Compared.{Compared}
 use Rattle.texts.specs.Texts.{Sized, Depths, Origin}
 use Rattle.verdict.specs.Bounds.{stateFits}
 use Rattle.verdict.specs.Verdict.{Ground, something-waits, state-outgrown, not-reached, placeOf, Progress, Run, passed, stopped, finish, checkTerm}
-use Rattle.waiting.specs.Waiting.{Waiting, slotOf, Noted}
+use Rattle.waiting.specs.Waiting.{Waiting, slotOf, lowOf, Noted}
+use Rattle.waiting.specs.Writing.{Moved}
 use Rattle.waiting.specs.declared.Slot.{Slot}
 use Rattle.walk.specs.State.{Text, Arrays, Reached, stateOf, restOf, agendaOf, StateAt, Stated}
 use Rattle.walk.specs.declared.Walked.{Walked}
@@ -118,25 +119,29 @@ typedOf s k from origin = record {
   comparisons = s .comparisons;
 }
 
--- What stands inside the first wagon, with nothing waiting.
-abbrev pub innerOf : WalkState → WalkState
-innerOf s = record {
+-- The term's own text at a place, with nothing waiting above what is suspended.
+abbrev pub startOf : (place top next comparisons : ℕ) → WalkState
+startOf place top next comparisons = record {
   own = true;
   checked = false;
   «in_term» = true;
-  place = s .place + 1;
-  from = s .place + 1;
-  origin = s .place + 1;
+  place = place;
+  from = place;
+  origin = place;
   shift = 0;
   cut = 0;
-  bottom = s .top;
-  middle = s .top;
-  top = s .top;
+  bottom = top;
+  middle = top;
+  top = top;
   size = 0;
   scope = 0;
-  next = s .next;
-  comparisons = s .comparisons;
+  next = next;
+  comparisons = comparisons;
 }
+
+-- What stands inside the first wagon.
+abbrev pub innerOf : WalkState → WalkState
+innerOf s = startOf (s .place + 1) (s .top) (s .next) (s .comparisons)
 
 -- The same state once that has been checked.
 abbrev pub checkedOf : WalkState → (next comparisons : ℕ) → WalkState
@@ -225,10 +230,13 @@ pub data Comes (x : Text) (m : Arrays) (f : FrameRecord) (s : WalkState) (a b : 
   comes-compared : r .kind ≡ 3 → r .entered ≡ true → Comparing (x .file) (m .work) (s .next) f (r .out .first) (r .end)
       → ((c : Compared) (l u : List ℕ) → Compares (x .file) (m .work) (s .next) f (r .out .first) (r .end) c l u → Becomes x m f s l u (settledOf s r c) n z) → Comes x m f s a b r n z
 
--- What is as it was, below a frame of len entries whose bytes end at `end`, and below the bottom of the list.
+-- What is as it was: a frame of len entries whose bytes end at `end`, what is below the bottom of the list, and its bytes at the end of the
+-- work array where no frame was written.
 pub record Keeps (m m′ : Arrays) (len end bottom : ℕ) : Type 0 where
   pub work-long : length (m′ .work) ≡ longestState
   pub work-below : Agree (m .work) (m′ .work) 0 end
+  pub work-above : Agree (m .work) (m′ .work) (max (lowOf (m .list) bottom) (m′ .reach)) longestState
+  pub reach-grows : m .reach ≤ m′ .reach
   pub list-long : length (m′ .list) ≡ length (m .list)
   pub list-below : Agree (m .list) (m′ .list) 0 (6 * bottom)
   pub domains-long : length (m′ .domains) ≡ length (m .domains)
@@ -301,10 +309,10 @@ pub data TauTurn (q : List ℕ) (s : WalkState) : Turned → Type 0 where
   tau-waits : s .top ≤ s .middle → (s .bottom ≡ s .top → ⊥) → TauTurn q s (answering stillWaiting (slotOf q (s .top - 1) .place) (s .top - s .bottom) 0 0 s)
 
 -- ⟨K⟩, whose K has n bytes and the scope y, waits: (iii) and (ix).
-abbrev pub slotFor : ℕ → WalkState → Slot
-slotFor len s = record { place = s .origin; at = s .from; depth = len; shift = s .shift; cut = s .cut; scope = s .scope }
+abbrev pub slotFor : (len at : ℕ) → WalkState → Slot
+slotFor len at s = record { place = s .origin; at = at; depth = len; shift = s .shift; cut = s .cut; scope = s .scope }
 
-pub record WaitReady (len : ℕ) (s : WalkState) (n : ℕ) : Type 0 where
+pub record WaitReady (t w q : List ℕ) (len : ℕ) (s : WalkState) (n : ℕ) : Type 0 where
   pub origin-small : s .origin < 65536
   pub from-small : s .from < 65536
   pub len-small : len < 65536
@@ -314,11 +322,19 @@ pub record WaitReady (len : ℕ) (s : WalkState) (n : ℕ) : Type 0 where
   pub top-small : s .top < 65536
   pub size-small : s .size < 65536
   pub n-small : n < 65536
+  pub work-long : length w ≡ longestState
+  pub listed : 6 * s .top ≤ length q
+  pub own-room : s .own ≡ true → (s .place + (1 + n) ≤ length t) × (1 + n ≤ lowOf q (s .top)) × (lowOf q (s .top) ≤ longestState)
 
-pub data WaitTurn (q q′ : List ℕ) (len : ℕ) (s : WalkState) (n y : ℕ) : Turned → Type 0 where
-  wait-full : q′ ≡ q → length q < 6 * s .top + 6 → WaitTurn q q′ len s n y (answering listFull 0 0 0 0 s)
-  wait-goes : 6 * s .top + 6 ≤ length q → Noted q q′ (s .top) (slotFor len s)
-      → WaitTurn q q′ len s n y (going 1 (pastOf s n (s .cut) (cond (s .own) (s .top + 1) (s .middle)) (s .top + 1) (s .size + (1 + n)) (max (s .scope) y) (s .next) (s .comparisons)) false 0)
+-- Where its bytes stand: in copied text, where they stood; those of the term's own text are put to the end of the work array.
+pub data PutAside (t w w′ q : List ℕ) (s : WalkState) (n at : ℕ) : Type 0 where
+  aside-copied : s .own ≡ false → w′ ≡ w → at ≡ s .from → PutAside t w w′ q s n at
+  aside-own : s .own ≡ true → at + (1 + n) ≡ lowOf q (s .top) → Moved t w w′ (s .place) (1 + n) at → PutAside t w w′ q s n at
+
+pub data WaitTurn (t w w′ q q′ : List ℕ) (len : ℕ) (s : WalkState) (n y : ℕ) : Turned → Type 0 where
+  wait-full : w′ ≡ w → q′ ≡ q → length q < 6 * s .top + 6 → WaitTurn t w w′ q q′ len s n y (answering listFull 0 0 0 0 s)
+  wait-goes : {at : ℕ} → 6 * s .top + 6 ≤ length q → PutAside t w w′ q s n at → Noted q q′ (s .top) (slotFor len at s)
+      → WaitTurn t w w′ q q′ len s n y (going 1 (pastOf s n (s .cut) (cond (s .own) (s .top + 1) (s .middle)) (s .top + 1) (s .size + (1 + n)) (max (s .scope) y) (s .next) (s .comparisons)) false 0)
 
 -- THE CHECK OF A TERM, from a state of its own text on
 pub record Checks (x : Text) (m m′ : Arrays) (f : FrameRecord) (s : WalkState) (a b : List ℕ) (r : Walked) : Type 0 where

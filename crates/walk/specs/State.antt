@@ -17,7 +17,7 @@ use Rattle.frames.specs.declared.FrameRecord.{FrameRecord}
 use Rattle.texts.specs.Texts.{Sized, Origin}
 use Rattle.verdict.specs.Bounds.{waitingSize, waitingScope, stateFits}
 use Rattle.verdict.specs.Verdict.{Item, state-at, placed, Progress}
-use Rattle.waiting.specs.Waiting.{Waiting, termsOf, places, Part, Queue}
+use Rattle.waiting.specs.Waiting.{Waiting, termsOf, places, Part, Queue, lowOf, KeptSlot}
 use Rattle.walk.specs.declared.WalkState.{WalkState}
 
 -- What the walk reads, and the arrays that it writes.
@@ -25,17 +25,19 @@ pub record Text : Type 0 where
   pub file : List ℕ
   pub term : List ℕ
 
+-- `reach` is how far frames were written in the work array.
 pub record Arrays : Type 0 where
   pub work : List ℕ
   pub list : List ℕ
   pub domains : List ℕ
   pub origins : List ℕ
+  pub reach : ℕ
 
 abbrev pub textOf : (file term : List ℕ) → Text
 textOf file term = record { file = file; term = term }
 
-abbrev pub arraysOf : (work list domains origins : List ℕ) → Arrays
-arraysOf work list domains origins = record { work = work; list = list; domains = domains; origins = origins }
+abbrev pub arraysOf : (work list domains origins : List ℕ) (reach : ℕ) → Arrays
+arraysOf work list domains origins reach = record { work = work; list = list; domains = domains; origins = origins; reach = reach }
 
 -- A frame each of whose terms is within the limits at its place.
 pub data Sound : Frame → Type 0 where
@@ -77,14 +79,17 @@ unfoldable pub agendaOf : (checked is-own : Bool) (place : ℕ) → Frame → Li
 agendaOf true b place R W Q B = restOf b place R W Q B
 agendaOf false b place R W Q B = state-at place (places W) (stateOf b R W Q B) ∷ []
 
--- The term's own text stands in the term, is seen as it is, and Y is empty.
-pub record OwnText (s : WalkState) (Q : List Waiting) : Type 0 where
+-- The term's own text stands in the term, is seen as it is, and Y is empty. The frame and the bytes of all that waits, in suspended checks
+-- too, are copies of parts of the text before its place.
+pub record OwnText (m : Arrays) (f : FrameRecord) (s : WalkState) (Q : List Waiting) : Type 0 where
   pub in-term : s .«in_term» ≡ true
   pub at-place : s .from ≡ s .place
   pub itself : s .origin ≡ s .place
   pub unlifted : s .shift ≡ 0
   pub no-copies : Q ≡ []
   pub tops : s .middle ≡ s .top
+  pub low : lowOf (m .list) (s .bottom) ≤ longestState
+  pub packed : f .end + longestState ≤ s .place + lowOf (m .list) (s .top)
 
 -- What stands inside the first wagon has been checked: the state was within the limits.
 pub record InsideChecked (b : ℕ) (s : WalkState) (R : Frame) (W Q : List Waiting) (B : Term) : Type 0 where
@@ -92,23 +97,28 @@ pub record InsideChecked (b : ℕ) (s : WalkState) (R : Frame) (W Q : List Waiti
   pub wagon : 0xfe ≤ b
   pub fitted : stateFits (stateOf (s .own) R W Q B) ≡ true
 
--- The numbers s and the record f, over the arrays m, are the state of R, W, Y and B; Q is Y with its places.
-pub record StateAt (x : Text) (m : Arrays) (f : FrameRecord) (s : WalkState) (R : Frame) (W Q : List Waiting) (B : Term) (p : Progress) : Type 0 where
+-- What is in the arrays: the frame R, and what waits, W and above it Y; Q is Y with its places.
+pub record Held (x : Text) (m : Arrays) (f : FrameRecord) (bottom middle top size scope place : ℕ) (R : Frame) (W Q : List Waiting) : Type 0 where
   pub term-short : length (x .term) ≤ longestTerm
   pub stored : Stored (m .work) f R
   pub sound : Sound R
   pub notes : Notes (x .term) m (f .end) (f .len) R
   pub domains-long : length (m .domains) ≡ mostAbstractors
   pub origins-long : length (m .origins) ≡ mostAbstractors
-  pub waits : Queue (x .term) (x .term) (m .list) (f .len) (length (x .term)) (s .bottom) 0 (s .middle) W
-  pub copies : Queue (x .term) (m .work) (m .list) (f .len) (f .end) (s .middle) (waitingScope (termsOf W)) (s .top) Q
-  pub listed : 6 * s .top ≤ length (m .list)
-  pub few-waiting : s .middle + s .middle ≤ s .place
-  pub place-bound : s .place < length (x .term)
-  pub size-is : s .size ≡ waitingSize (termsOf W) + waitingSize (termsOf Q)
-  pub scope-is : s .scope ≡ max (waitingScope (termsOf W)) (waitingScope (termsOf Q))
-  pub size-bound : s .size ≤ longestState
-  pub scope-bound : s .scope ≤ mostAbstractors
+  pub waits : Queue true (x .term) (x .term) (m .list) (f .len) (length (x .term)) bottom 0 middle W
+  pub kept : (j : ℕ) → bottom ≤ j → j < middle → KeptSlot (x .term) (m .work) (m .list) (m .reach) j
+  pub copies : Queue false (x .term) (m .work) (m .list) (f .len) (f .end) middle (waitingScope (termsOf W)) top Q
+  pub listed : 6 * top ≤ length (m .list)
+  pub few-waiting : middle + middle ≤ place
+  pub place-bound : place < length (x .term)
+  pub size-is : size ≡ waitingSize (termsOf W) + waitingSize (termsOf Q)
+  pub scope-is : scope ≡ max (waitingScope (termsOf W)) (waitingScope (termsOf Q))
+  pub size-bound : size ≤ longestState
+  pub scope-bound : scope ≤ mostAbstractors
+
+-- The numbers s and the record f, over the arrays m, are the state of R, W, Y and B.
+pub record StateAt (x : Text) (m : Arrays) (f : FrameRecord) (s : WalkState) (R : Frame) (W Q : List Waiting) (B : Term) (p : Progress) : Type 0 where
+  pub held : Held x m f (s .bottom) (s .middle) (s .top) (s .size) (s .scope) (s .place) R W Q
   pub text : Term
   pub end : ℕ
   pub stands : Stands (cond (s .«in_term») (x .term) (m .work)) (s .from) end text
@@ -118,7 +128,7 @@ pub record StateAt (x : Text) (m : Arrays) (f : FrameRecord) (s : WalkState) (R 
   pub shift-bound : s .shift ≤ mostAbstractors
   pub cut-bound : s .cut ≤ f .len
   pub closed : Closed (f .len) B
-  pub own-text : s .own ≡ true → OwnText s Q
+  pub own-text : s .own ≡ true → OwnText m f s Q
   -- a variable that was met and not yet typed is all that copied text has in the term
   pub met : s .own ≡ false → s .«in_term» ≡ true → (k : ℕ) × (text ≡ var k)
   pub inner : s .checked ≡ true → InsideChecked (getD (x .term) (s .from) 0) s R W Q B

@@ -10,7 +10,7 @@ ghost use Rattle.code.specs.Limits.{longestTerm, longestState, mostAbstractors}
 ghost use Rattle.frames.specs.Stored.{recordOf};
 ghost use Rattle.compare.specs.Sides.{Buffers};
 ghost use Rattle.walk.specs.State.{textOf, arraysOf, Stated};
-ghost use Rattle.walk.specs.Contracts.{within, answering, going, pairing, completedOf, pastOf, metOf, typedOf, innerOf, checkedOf, TestAs, DueAs, TauTurn, WaitReady, WaitTurn, SizesKnown, DepthsKnown, AbstractorAt, Wagons, Known, Turns, InnerAt, Checks, Walkable, WholeAnswer, WalkAnswer};
+ghost use Rattle.walk.specs.Contracts.{within, answering, going, pairing, completedOf, pastOf, metOf, typedOf, startOf, innerOf, checkedOf, TestAs, DueAs, TauTurn, WaitReady, PutAside, WaitTurn, SizesKnown, DepthsKnown, AbstractorAt, Wagons, Known, Turns, InnerAt, Checks, Walkable, WholeAnswer, WalkAnswer};
 use code::numbers::ACCEPTED;
 use code::numbers::LONGEST_STATE;
 use code::numbers::LONGEST_TERM;
@@ -27,6 +27,8 @@ use indices::larger;
 use letters::Letters;
 use texts::measure;
 use waiting::Slot;
+use waiting::copy_from;
+use waiting::low;
 use waiting::put;
 use waiting::slot_at;
 use waiting::store_slot;
@@ -38,7 +40,8 @@ pub const LIST_FULL: u32 = 254;
 // So many numbers are enough for all that can wait: six for each of 6,144.
 pub const LONGEST_LIST: usize = 36864;
 
-// What a turn comes to: an answer, another state, or that what stands inside an applicator or an abstractor must be checked first.
+// What a turn comes to: an answer, another state, that what stands inside an applicator or an abstractor must be checked first, or that
+// a comparison is due.
 const ANSWER: u32 = 0;
 
 const STATE: u32 = 1;
@@ -336,18 +339,41 @@ fn past(
     }
 }
 
+// Where the bytes of ⟨K⟩ stand in the work array while it waits: those of copied text where they stand, and those of the term's own text,
+// whose K has n bytes, at the array's end, before those that wait already.
+fn put_aside(t: &[u8], work: &mut Work, list: &[u16], s: WalkState, n: usize) -> usize
+    requires { ⌜ ((len : ℕ) × WaitReady (now t) (now work) (now list) len s n) ⌝ }
+    ensures { λ r. ⌜ PutAside (now (t .entry)) (now (work .entry)) (now (work .exit)) (now (list .entry)) s n r × (r < 65536) ⌝ }
+{
+    if !s.own {
+        return s.from;
+    }
+    let at = low(list, s.top) - (1 + n);
+    copy_from(t, s.place, 1 + n, work, at);
+    at
+}
+
 // (iii) and (ix): ⟨K⟩, whose K has n bytes and the scope y, waits.
-fn wait(list: &mut [u16], len: usize, s: WalkState, n: usize, y: usize) -> Turned
-    requires { ⌜ WaitReady len s n ⌝ }
-    ensures { λ r. ⌜ WaitTurn (now (list .entry)) (now (list .exit)) len s n y r ⌝ }
+fn wait(
+    t: &[u8],
+    work: &mut Work,
+    list: &mut [u16],
+    len: usize,
+    s: WalkState,
+    n: usize,
+    y: usize,
+) -> Turned
+    requires { ⌜ WaitReady (now t) (now work) (now list) len s n ⌝ }
+    ensures { λ r. ⌜ WaitTurn (now (t .entry)) (now (work .entry)) (now (work .exit)) (now (list .entry)) (now (list .exit)) len s n y r ⌝ }
 {
     let top = s.top;
     if list.len() < 6 * top + 6 {
         return answer(LIST_FULL, 0, 0, 0, 0, s);
     }
+    let at = put_aside(t, work, list, s, n);
     let v = Slot {
         place: s.origin,
-        at: s.from,
+        at,
         depth: len,
         shift: s.shift,
         cut: s.cut,
@@ -372,6 +398,13 @@ fn wait(list: &mut [u16], len: usize, s: WalkState, n: usize, y: usize) -> Turne
     onward(STATE, z, false, 0)
 }
 
+// A frame is written up to e.
+fn stretch(reach: &mut usize, e: usize)
+    ensures { λ r. ⌜ now (reach .exit) ≡ max (now (reach .entry)) e ⌝ }
+{
+    *reach = larger(*reach, e);
+}
+
 // [U], whose U has n bytes, while nothing waits: (iv) and (x).
 fn enter_alone(
     t: &[u8],
@@ -379,13 +412,14 @@ fn enter_alone(
     work: &mut Work,
     domains: &mut Starts,
     origins: &mut Starts,
+    reach: &mut usize,
     len: usize,
     end: usize,
     s: WalkState,
     n: usize,
 ) -> Turned
-    requires { ⌜ (s .bottom ≡ s .top) × DepthsKnown (now t) (now depths) × ((file list starts : List ℕ) × AbstractorAt (textOf file (now t)) (arraysOf (now work) list (now domains) (now origins)) (recordOf starts len end) s n) ⌝ }
-    ensures { λ r. ⌜ ((file list starts a b : List ℕ) → AbstractorAt (textOf file (now (t .entry))) (arraysOf (now (work .entry)) list (now (domains .entry)) (now (origins .entry))) (recordOf starts len end) s n → Wagons (textOf file (now (t .entry))) (arraysOf (now (work .entry)) list (now (domains .entry)) (now (origins .entry))) (arraysOf (now (work .exit)) list (now (domains .exit)) (now (origins .exit))) (recordOf starts len end) s a b r) ⌝ }
+    requires { ⌜ (s .bottom ≡ s .top) × DepthsKnown (now t) (now depths) × ((file list starts : List ℕ) × AbstractorAt (textOf file (now t)) (arraysOf (now work) list (now domains) (now origins) (now reach)) (recordOf starts len end) s n) ⌝ }
+    ensures { λ r. ⌜ ((file list starts a b : List ℕ) → AbstractorAt (textOf file (now (t .entry))) (arraysOf (now (work .entry)) list (now (domains .entry)) (now (origins .entry)) (now (reach .entry))) (recordOf starts len end) s n → Wagons (textOf file (now (t .entry))) (arraysOf (now (work .entry)) list (now (domains .entry)) (now (origins .entry)) (now (reach .entry))) (arraysOf (now (work .exit)) list (now (domains .exit)) (now (origins .exit)) (now (reach .exit))) (recordOf starts len end) s a b r) ⌝ }
 {
     let from = s.from + 1;
     let b = put(
@@ -402,6 +436,7 @@ fn enter_alone(
         s.cut,
         0,
     );
+    stretch(reach, b);
     domains[len] = (end + 1) as u16;
     origins[len] = (s.origin + 1) as u16;
     let z = past(
@@ -427,13 +462,14 @@ fn enter_copied(
     list: &[u16],
     domains: &mut Starts,
     origins: &mut Starts,
+    reach: &mut usize,
     len: usize,
     end: usize,
     s: WalkState,
     n: usize,
 ) -> Turned
-    requires { ⌜ SizesKnown (now t) (now sizes) × (s .middle < s .top) × DepthsKnown (now t) (now depths) × ((file starts : List ℕ) × AbstractorAt (textOf file (now t)) (arraysOf (now work) (now list) (now domains) (now origins)) (recordOf starts len end) s n) ⌝ }
-    ensures { λ r. ⌜ ((file starts a b : List ℕ) → AbstractorAt (textOf file (now (t .entry))) (arraysOf (now (work .entry)) (now (list .entry)) (now (domains .entry)) (now (origins .entry))) (recordOf starts len end) s n → Wagons (textOf file (now (t .entry))) (arraysOf (now (work .entry)) (now (list .entry)) (now (domains .entry)) (now (origins .entry))) (arraysOf (now (work .exit)) (now (list .entry)) (now (domains .exit)) (now (origins .exit))) (recordOf starts len end) s a b r) ⌝ }
+    requires { ⌜ SizesKnown (now t) (now sizes) × (s .middle < s .top) × DepthsKnown (now t) (now depths) × ((file starts : List ℕ) × AbstractorAt (textOf file (now t)) (arraysOf (now work) (now list) (now domains) (now origins) (now reach)) (recordOf starts len end) s n) ⌝ }
+    ensures { λ r. ⌜ ((file starts a b : List ℕ) → AbstractorAt (textOf file (now (t .entry))) (arraysOf (now (work .entry)) (now (list .entry)) (now (domains .entry)) (now (origins .entry)) (now (reach .entry))) (recordOf starts len end) s n → Wagons (textOf file (now (t .entry))) (arraysOf (now (work .entry)) (now (list .entry)) (now (domains .entry)) (now (origins .entry)) (now (reach .entry))) (arraysOf (now (work .exit)) (now (list .entry)) (now (domains .exit)) (now (origins .exit)) (now (reach .exit))) (recordOf starts len end) s a b r) ⌝ }
 {
     let top = s.top - 1;
     let v = slot_at(list, top);
@@ -469,6 +505,7 @@ fn enter_copied(
         s.cut,
         0,
     );
+    stretch(reach, b);
     domains[len] = (a + 1) as u16;
     origins[len] = (s.origin + 1) as u16;
     let z = past(
@@ -485,7 +522,23 @@ fn enter_copied(
     onward(STATE, z, true, b)
 }
 
-// [U], whose U has n bytes, takes the last of W: (v) and (xi). They are to be compared.
+// Whether a frame was written past `at`.
+fn is_lost(at: usize, reach: usize) -> bool
+    ensures { λ r. ⌜ (r ≡ false → reach ≤ at) ⌝ }
+{
+    at < reach
+}
+
+// Where K starts that waits as v says: in the term, or in the work array.
+fn start_of(v: Slot, in_term: bool) -> usize
+    requires { ⌜ (v .place < 65536) × (v .at < 65536) ⌝ }
+    ensures { λ r. ⌜ (r ≡ cond in_term (v .place) (v .at)) × (r < 65536) ⌝ }
+{
+    if in_term { v.place } else { v.at }
+}
+
+// [U], whose U has n bytes, takes the last of W: (v) and (xi). They are to be compared. K is read from the end of the work array, or from
+// the term if a frame was written over it, as the copied text of an inner check may, or if this one will be.
 fn enter_waiting(
     t: &[u8],
     sizes: &[u16],
@@ -494,25 +547,29 @@ fn enter_waiting(
     list: &[u16],
     domains: &mut Starts,
     origins: &mut Starts,
+    reach: &mut usize,
     len: usize,
     end: usize,
     s: WalkState,
     n: usize,
 ) -> Turned
-    requires { ⌜ SizesKnown (now t) (now sizes) × (s .top ≤ s .middle) × (s .bottom ≡ s .top → ⊥) × DepthsKnown (now t) (now depths) × ((file starts : List ℕ) × AbstractorAt (textOf file (now t)) (arraysOf (now work) (now list) (now domains) (now origins)) (recordOf starts len end) s n) ⌝ }
-    ensures { λ r. ⌜ ((file starts a b : List ℕ) → AbstractorAt (textOf file (now (t .entry))) (arraysOf (now (work .entry)) (now (list .entry)) (now (domains .entry)) (now (origins .entry))) (recordOf starts len end) s n → Wagons (textOf file (now (t .entry))) (arraysOf (now (work .entry)) (now (list .entry)) (now (domains .entry)) (now (origins .entry))) (arraysOf (now (work .exit)) (now (list .entry)) (now (domains .exit)) (now (origins .exit))) (recordOf starts len end) s a b r) ⌝ }
+    requires { ⌜ SizesKnown (now t) (now sizes) × (s .top ≤ s .middle) × (s .bottom ≡ s .top → ⊥) × DepthsKnown (now t) (now depths) × ((file starts : List ℕ) × AbstractorAt (textOf file (now t)) (arraysOf (now work) (now list) (now domains) (now origins) (now reach)) (recordOf starts len end) s n) ⌝ }
+    ensures { λ r. ⌜ ((file starts a b : List ℕ) → AbstractorAt (textOf file (now (t .entry))) (arraysOf (now (work .entry)) (now (list .entry)) (now (domains .entry)) (now (origins .entry)) (now (reach .entry))) (recordOf starts len end) s n → Wagons (textOf file (now (t .entry))) (arraysOf (now (work .entry)) (now (list .entry)) (now (domains .entry)) (now (origins .entry)) (now (reach .entry))) (arraysOf (now (work .exit)) (now (list .entry)) (now (domains .exit)) (now (origins .exit)) (now (reach .exit))) (recordOf starts len end) s a b r) ⌝ }
 {
     let top = s.top - 1;
     let v = slot_at(list, top);
     let o = v.place + 1;
     let k = wide16(sizes[o]);
-    let at = v.at + 1;
+    let b = end + (1 + k) + (1 + n);
+    stretch(reach, b);
+    let lost = is_lost(v.at, *reach);
+    let at = start_of(v, lost) + 1;
     let a = put(
         t,
         depths,
         work,
         0xfe,
-        true,
+        lost,
         at,
         at + k,
         o,
@@ -522,7 +579,7 @@ fn enter_waiting(
         len - v.depth,
     );
     let from = s.from + 1;
-    let b = put(
+    let e = put(
         t,
         depths,
         work,
@@ -549,7 +606,7 @@ fn enter_waiting(
         s.next,
         s.comparisons,
     );
-    pair(z, v.place, a, b)
+    pair(z, v.place, a, e)
 }
 
 // What stands inside the first wagon has been checked.
@@ -609,12 +666,13 @@ fn turn(
     list: &mut [u16],
     domains: &mut Starts,
     origins: &mut Starts,
+    reach: &mut usize,
     len: usize,
     end: usize,
     s: WalkState,
 ) -> Turned
-    requires { ⌜ Known (now t) (now sizes) (now scopes) × DepthsKnown (now t) (now depths) × ((file starts : List ℕ) × Stated (textOf file (now t)) (arraysOf (now work) (now list) (now domains) (now origins)) (recordOf starts len end) s) ⌝ }
-    ensures { λ r. ⌜ ((file starts a b : List ℕ) → Stated (textOf file (now (t .entry))) (arraysOf (now (work .entry)) (now (list .entry)) (now (domains .entry)) (now (origins .entry))) (recordOf starts len end) s → Turns (textOf file (now (t .entry))) (arraysOf (now (work .entry)) (now (list .entry)) (now (domains .entry)) (now (origins .entry))) (arraysOf (now (work .exit)) (now (list .exit)) (now (domains .exit)) (now (origins .exit))) (recordOf starts len end) s a b r) ⌝ }
+    requires { ⌜ Known (now t) (now sizes) (now scopes) × DepthsKnown (now t) (now depths) × ((file starts : List ℕ) × Stated (textOf file (now t)) (arraysOf (now work) (now list) (now domains) (now origins) (now reach)) (recordOf starts len end) s) ⌝ }
+    ensures { λ r. ⌜ ((file starts a b : List ℕ) → Stated (textOf file (now (t .entry))) (arraysOf (now (work .entry)) (now (list .entry)) (now (domains .entry)) (now (origins .entry)) (now (reach .entry))) (recordOf starts len end) s → Turns (textOf file (now (t .entry))) (arraysOf (now (work .entry)) (now (list .entry)) (now (domains .entry)) (now (origins .entry)) (now (reach .entry))) (arraysOf (now (work .exit)) (now (list .exit)) (now (domains .exit)) (now (origins .exit)) (now (reach .exit))) (recordOf starts len end) s a b r) ⌝ }
 {
     if !test(sizes, scopes, len, end, s) {
         return answer(OUTGROWN, s.place, 0, 0, 0, s);
@@ -637,10 +695,10 @@ fn turn(
     let n = wide16(sizes[o]);
     if b == 0xfe {
         let y = wide16(scopes[o]);
-        return wait(list, len, s, n, y);
+        return wait(t, work, list, len, s, n, y);
     }
     if s.bottom == s.top {
-        return enter_alone(t, depths, work, domains, origins, len, end, s, n);
+        return enter_alone(t, depths, work, domains, origins, reach, len, end, s, n);
     }
     if s.middle < s.top {
         return enter_copied(
@@ -651,6 +709,7 @@ fn turn(
             list,
             domains,
             origins,
+            reach,
             len,
             end,
             s,
@@ -665,6 +724,7 @@ fn turn(
         list,
         domains,
         origins,
+        reach,
         len,
         end,
         s,
@@ -672,8 +732,8 @@ fn turn(
     )
 }
 
-// The check of a term from a state of its own text on: a loop of turns, and a call for what stands inside each applicator and
-// abstractor. The frame is lent in its parts and copied once, into a record that grows here.
+// The check of what stands at a place of the term's own text, with nothing waiting: a loop of turns, and a call for what stands inside each
+// applicator and abstractor. The frame is lent in its parts and copied once, into a record that grows here.
 fn term(
     file: &[u8],
     t: &[u8],
@@ -684,15 +744,19 @@ fn term(
     list: &mut [u16],
     domains: &mut Starts,
     origins: &mut Starts,
+    reach: &mut usize,
     left: &mut Letters,
     right: &mut Letters,
     starts: &Starts,
     len: usize,
     end: usize,
-    s: WalkState,
+    place: usize,
+    top: usize,
+    next: usize,
+    comparisons: usize,
 ) -> Walked
-    requires { ⌜ Known (now t) (now sizes) (now scopes) × Stated (textOf (now file) (now t)) (arraysOf (now work) (now list) (now domains) (now origins)) (recordOf (now starts) len end) s × Buffers (now left) (now right) × DepthsKnown (now t) (now depths) ⌝ }
-    ensures { λ r. ⌜ Checks (textOf (now (file .entry)) (now (t .entry))) (arraysOf (now (work .entry)) (now (list .entry)) (now (domains .entry)) (now (origins .entry))) (arraysOf (now (work .exit)) (now (list .exit)) (now (domains .exit)) (now (origins .exit))) (recordOf (now (starts .entry)) len end) s (now (left .exit)) (now (right .exit)) r × Buffers (now (left .exit)) (now (right .exit)) ⌝ }
+    requires { ⌜ Known (now t) (now sizes) (now scopes) × Stated (textOf (now file) (now t)) (arraysOf (now work) (now list) (now domains) (now origins) (now reach)) (recordOf (now starts) len end) (startOf place top next comparisons) × Buffers (now left) (now right) × DepthsKnown (now t) (now depths) ⌝ }
+    ensures { λ r. ⌜ Checks (textOf (now (file .entry)) (now (t .entry))) (arraysOf (now (work .entry)) (now (list .entry)) (now (domains .entry)) (now (origins .entry)) (now (reach .entry))) (arraysOf (now (work .exit)) (now (list .exit)) (now (domains .exit)) (now (origins .exit)) (now (reach .exit))) (recordOf (now (starts .entry)) len end) (startOf place top next comparisons) (now (left .exit)) (now (right .exit)) r × Buffers (now (left .exit)) (now (right .exit)) ⌝ }
 {
     let own = *starts;
     let mut f = FrameRecord {
@@ -700,7 +764,23 @@ fn term(
         len,
         end,
     };
-    let mut z = s;
+    let mut z = WalkState {
+        own: true,
+        checked: false,
+        in_term: true,
+        place,
+        from: place,
+        origin: place,
+        shift: 0,
+        cut: 0,
+        bottom: top,
+        middle: top,
+        top,
+        size: 0,
+        scope: 0,
+        next,
+        comparisons,
+    };
     loop {
         let r = turn(
             t,
@@ -711,6 +791,7 @@ fn term(
             list,
             domains,
             origins,
+            reach,
             f.len,
             f.end,
             z,
@@ -730,6 +811,7 @@ fn term(
                 list,
                 domains,
                 origins,
+                reach,
                 left,
                 right,
                 &f.starts,
@@ -797,6 +879,7 @@ fn inside(
     list: &mut [u16],
     domains: &mut Starts,
     origins: &mut Starts,
+    reach: &mut usize,
     left: &mut Letters,
     right: &mut Letters,
     starts: &Starts,
@@ -804,27 +887,9 @@ fn inside(
     end: usize,
     s: WalkState,
 ) -> Walked
-    requires { ⌜ Known (now t) (now sizes) (now scopes) × InnerAt (textOf (now file) (now t)) (arraysOf (now work) (now list) (now domains) (now origins)) (recordOf (now starts) len end) s × Buffers (now left) (now right) × DepthsKnown (now t) (now depths) ⌝ }
-    ensures { λ r. ⌜ Checks (textOf (now (file .entry)) (now (t .entry))) (arraysOf (now (work .entry)) (now (list .entry)) (now (domains .entry)) (now (origins .entry))) (arraysOf (now (work .exit)) (now (list .exit)) (now (domains .exit)) (now (origins .exit))) (recordOf (now (starts .entry)) len end) (innerOf s) (now (left .exit)) (now (right .exit)) r × Buffers (now (left .exit)) (now (right .exit)) ⌝ }
+    requires { ⌜ Known (now t) (now sizes) (now scopes) × InnerAt (textOf (now file) (now t)) (arraysOf (now work) (now list) (now domains) (now origins) (now reach)) (recordOf (now starts) len end) s × Buffers (now left) (now right) × DepthsKnown (now t) (now depths) ⌝ }
+    ensures { λ r. ⌜ Checks (textOf (now (file .entry)) (now (t .entry))) (arraysOf (now (work .entry)) (now (list .entry)) (now (domains .entry)) (now (origins .entry)) (now (reach .entry))) (arraysOf (now (work .exit)) (now (list .exit)) (now (domains .exit)) (now (origins .exit)) (now (reach .exit))) (recordOf (now (starts .entry)) len end) (innerOf s) (now (left .exit)) (now (right .exit)) r × Buffers (now (left .exit)) (now (right .exit)) ⌝ }
 {
-    let place = s.place + 1;
-    let z = WalkState {
-        own: true,
-        checked: false,
-        in_term: true,
-        place,
-        from: place,
-        origin: place,
-        shift: 0,
-        cut: 0,
-        bottom: s.top,
-        middle: s.top,
-        top: s.top,
-        size: 0,
-        scope: 0,
-        next: s.next,
-        comparisons: s.comparisons,
-    };
     term(
         file,
         t,
@@ -835,12 +900,16 @@ fn inside(
         list,
         domains,
         origins,
+        reach,
         left,
         right,
         starts,
         len,
         end,
-        z,
+        s.place + 1,
+        s.top,
+        s.next,
+        s.comparisons,
     )
 }
 
@@ -862,25 +931,9 @@ fn whole(
     let mut work: Work = [0; LONGEST_STATE];
     let mut domains: Starts = [0; MOST_ABSTRACTORS];
     let mut origins: Starts = [0; MOST_ABSTRACTORS];
+    let mut reach: usize = 0;
     measure(t, left, sizes, scopes, depths);
     let f = empty_frame();
-    let s = WalkState {
-        own: true,
-        checked: false,
-        in_term: true,
-        place: 0,
-        from: 0,
-        origin: 0,
-        shift: 0,
-        cut: 0,
-        bottom: 0,
-        middle: 0,
-        top: 0,
-        size: 0,
-        scope: 0,
-        next: at,
-        comparisons: 0,
-    };
     term(
         file,
         t,
@@ -891,12 +944,16 @@ fn whole(
         list,
         &mut domains,
         &mut origins,
+        &mut reach,
         left,
         right,
         &f.starts,
         f.len,
         f.end,
-        s,
+        0,
+        0,
+        at,
+        0,
     )
 }
 

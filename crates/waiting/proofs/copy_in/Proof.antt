@@ -3,6 +3,7 @@
 use native.Mathlib.Omega.{arith}
 use Prim.Native.Nat.{_-_, _+_, _≤_}
 use mathlib.Core.Path.{_≡_, refl}
+use mathlib.Core.Logic.{⊎-elim}
 use borrow.Author.Needs.{needs}
 use Rattle.waiting.specs.Writing.{Moved}
 use Rattle.waiting.proofs.Bytes.{moved-none, moved-more}
@@ -39,7 +40,7 @@ loop-less : tie.Need-loop-less Inv-loop μ-loop
 loop-less c = search needs
 
 loop-again : tie.Need-loop-again Inv-loop μ-loop
-loop-again c = (omega arith, moved-more _ (omega (arith, c .before .before .before .pre .2)) (c .before .before .loop .inv .1 .below .same _ (omega arith) (omega arith)) (c .before .before .loop .inv .1))
+loop-again c = let m = c .before .before .loop .inv .1 in (omega arith, moved-more _ (omega (arith, c .before .before .before .pre .3)) (⊎-elim (λ l. m .below .same _ (omega arith) (omega arith)) (λ l. m .above .same _ (omega arith) (omega arith)) (c .before .before .before .pre .0)) m)
 
 returns : tie.Need-returns Inv-loop μ-loop
 returns c = let q : c .before .loop .i ≡ c .before .before .args .n = omega arith in rw q at (c .before .loop .inv .1)

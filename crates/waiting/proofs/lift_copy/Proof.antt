@@ -18,20 +18,20 @@ abbrev μ-loop : tie.MeasureT-loop
 returns : tie.Need-returns Inv-loop μ-loop
 returns c = lifted-zero _ _ (c .if1 .taken)
 
-byte-at-most-requires : tie.Need-byte-at-most-requires Inv-loop μ-loop
-byte-at-most-requires c κs = search needs
+byte-requires : tie.Need-byte-requires Inv-loop μ-loop
+byte-requires c κs = search needs
 
-byte-at-most-requires-2 : tie.Need-byte-at-most-requires-2 Inv-loop μ-loop
-byte-at-most-requires-2 c κs = search needs
+byte-requires-2 : tie.Need-byte-requires-2 Inv-loop μ-loop
+byte-requires-2 c κs = search needs
 
 shared-slice-read-base : tie.Need-shared-slice-read-base Inv-loop μ-loop
-shared-slice-read-base c = omega (arith, ends (c .before .before .before .before .before .pre) .1)
+shared-slice-read-base c = omega (arith, ends (c .before .before .before .before .before .pre .2) .1)
 
 sub-size : tie.Need-sub-size Inv-loop μ-loop
-sub-size c = omega (arith, ends (c .before .before .before .before .before .pre) .0)
+sub-size c = omega (arith, ends (c .before .before .before .before .before .pre .2) .0)
 
 loop-holds : tie.Need-loop-holds Inv-loop μ-loop
-loop-holds c = (c .before .before .before .before .before .pre, lifting-start (c .before .before .before .before .before .pre))
+loop-holds c = (c .before .before .before .before .before .pre .2, lifting-start (c .before .before .before .before .before .pre .2))
 
 add-b : tie.Need-add-b Inv-loop μ-loop
 add-b c = omega (arith, place-in (c .before .loop .inv .0) (c .before .loop .inv .1) (c .loop-test .taken) .0)
@@ -49,7 +49,7 @@ sub-raised : tie.Need-sub-raised Inv-loop μ-loop
 sub-raised c = omega (arith, depth-more (c .before .before .before .loop .inv .0) (c .before .before .before .loop .inv .1) (c .before .before .loop-test .taken))
 
 raised-requires : tie.Need-raised-requires Inv-loop μ-loop
-raised-requires c κs = lifting-fits (c .before .before .before .loop .inv .0) (c .before .before .before .loop .inv .1) (c .before .before .loop-test .taken) (c .before .before .before .before .before .before .byte-at-most .ensures) (c .before .before .before .before .before .byte-at-most2 .ensures)
+raised-requires c κs = lifting-fits (c .before .before .before .loop .inv .0) (c .before .before .before .loop .inv .1) (c .before .before .loop-test .taken) (c .before .before .before .before .before .before .byte .ensures) (c .before .before .before .before .before .byte2 .ensures)
 
 add-work : tie.Need-add-work Inv-loop μ-loop
 add-work c = omega (arith, place-in (c .before .before .before .before .loop .inv .0) (c .before .before .before .before .loop .inv .1) (c .before .before .before .loop-test .taken) .0)
@@ -64,7 +64,7 @@ loop-less : tie.Need-loop-less Inv-loop μ-loop
 loop-less c = omega arith
 
 loop-again : tie.Need-loop-again Inv-loop μ-loop
-loop-again c = (c .before .before .before .before .loop .inv .0, lifting-next (c .before .before .before .before .loop .inv .0) (c .before .before .before .before .loop .inv .1) (c .before .before .before .loop-test .taken) (c .before .before .before .before .before .before .before .byte-at-most .ensures) (c .before .before .before .before .before .before .byte-at-most2 .ensures) (c .raised .ensures))
+loop-again c = (c .before .before .before .before .loop .inv .0, lifting-next (c .before .before .before .before .loop .inv .0) (c .before .before .before .before .loop .inv .1) (c .before .before .before .loop-test .taken) (c .before .before .before .before .before .before .before .byte .ensures) (c .before .before .before .before .before .before .byte2 .ensures) (c .raised .ensures))
 
 returns-2 : tie.Need-returns-2 Inv-loop μ-loop
 returns-2 c = lifting-end (c .before .loop .inv .0) (c .before .loop .inv .1) (c .loop-test .left)
@@ -76,8 +76,8 @@ lift-copy-spec =
     Inv-loop
     μ-loop
     returns
-    byte-at-most-requires
-    byte-at-most-requires-2
+    byte-requires
+    byte-requires-2
     shared-slice-read-base
     sub-size
     loop-holds

@@ -1,7 +1,7 @@
 -- `walk::enter_alone` meets its contract.
 -- Assumes nothing.
+use Rattle.walk.proofs.Entering.{abs-bounds, alone-asked, alone-wagons}
 use native.Mathlib.Omega.{arith}
-use Rattle.walk.proofs.Entering.{alone-placed, abs-bounds, alone-asked, alone-wagons}
 use borrow.Author.Needs.{needs}
 use Rattle.walk.proofs.enter_alone.Statement.{statement}
 use Rattle.walk.proofs.enter_alone.Tie as tie
@@ -10,6 +10,7 @@ use Rattle.walk.proofs.enter_alone.Lts as lts
 use Rattle.waiting.proofs.put.Reads as put-reads
 use Rattle.walk.proofs.onward.Reads as onward-reads
 use Rattle.walk.proofs.past.Reads as past-reads
+use Rattle.walk.proofs.stretch.Reads as stretch-reads
 
 add-from : tie.Need-add-from
 add-from c = omega (arith, abs-bounds (c .before .before .before .pre .2 .3))
@@ -21,43 +22,46 @@ add-put-2 : tie.Need-add-put-2
 add-put-2 c = omega (arith, abs-bounds (c .before .before .before .before .before .pre .2 .3))
 
 put-requires : tie.Need-put-requires
-put-requires c κs = let a = alone-asked (c .before .before .before .before .before .pre .2 .3) (c .before .before .before .before .before .pre .0) in (a .0, a .1, a .2, alone-placed (c .before .before .before .before .before .pre .2 .3) (c .before .before .before .before .before .pre .1))
+put-requires c κs = alone-asked (c .before .before .before .before .before .pre .2 .3) (c .before .before .before .before .before .pre .0) (c .before .before .before .before .before .pre .1)
+
+stretch-requires : tie.Need-stretch-requires
+stretch-requires c κs = search needs
 
 add-domains : tie.Need-add-domains
-add-domains c = omega (arith, abs-bounds (c .before .before .before .before .before .before .pre .2 .3))
+add-domains c = omega (arith, abs-bounds (c .before .before .before .before .before .before .before .before .pre .2 .3))
 
 cast-domains : tie.Need-cast-domains
-cast-domains c = omega (arith, abs-bounds (c .before .before .before .before .before .before .pre .2 .3))
+cast-domains c = omega (arith, abs-bounds (c .before .before .before .before .before .before .before .before .pre .2 .3))
 
 mul-domains : tie.Need-mul-domains
-mul-domains c = omega (arith, abs-bounds (c .before .before .before .before .before .before .pre .2 .3))
+mul-domains c = omega (arith, abs-bounds (c .before .before .before .before .before .before .before .before .pre .2 .3))
 
 element-write-domains : tie.Need-element-write-domains
-element-write-domains c = omega (arith, abs-bounds (c .before .before .before .before .before .before .pre .2 .3))
+element-write-domains c = omega (arith, abs-bounds (c .before .before .before .before .before .before .before .before .pre .2 .3))
 
 add-origins : tie.Need-add-origins
-add-origins c = omega (arith, abs-bounds (c .before .before .before .before .before .before .before .pre .2 .3))
+add-origins c = omega (arith, abs-bounds (c .before .before .before .before .before .before .before .before .before .pre .2 .3))
 
 cast-origins : tie.Need-cast-origins
-cast-origins c = omega (arith, abs-bounds (c .before .before .before .before .before .before .before .pre .2 .3))
+cast-origins c = omega (arith, abs-bounds (c .before .before .before .before .before .before .before .before .before .pre .2 .3))
 
 mul-origins : tie.Need-mul-origins
-mul-origins c = omega (arith, abs-bounds (c .before .before .before .before .before .before .before .pre .2 .3))
+mul-origins c = omega (arith, abs-bounds (c .before .before .before .before .before .before .before .before .before .pre .2 .3))
 
 element-write-origins : tie.Need-element-write-origins
-element-write-origins c = omega (arith, abs-bounds (c .before .before .before .before .before .before .before .pre .2 .3))
+element-write-origins c = omega (arith, abs-bounds (c .before .before .before .before .before .before .before .before .before .pre .2 .3))
 
 add-past : tie.Need-add-past
-add-past c = omega (arith, abs-bounds (c .before .before .before .before .before .before .before .before .pre .2 .3))
+add-past c = omega (arith, abs-bounds (c .before .before .before .before .before .before .before .before .before .before .pre .2 .3))
 
 past-requires : tie.Need-past-requires
-past-requires c κs = let b = abs-bounds (c .before .before .before .before .before .before .before .before .pre .2 .3) in (b .0, b .1, b .2)
+past-requires c κs = let b = abs-bounds (c .before .before .before .before .before .before .before .before .before .before .pre .2 .3) in (b .0, b .1, b .2)
 
 onward-requires : tie.Need-onward-requires
 onward-requires c κs = search needs
 
 returns : tie.Need-returns
-returns c = λ file list starts a b g. rw (c .onward .ensures, c .before .past .ensures) (alone-wagons g a b (c .before .before .before .before .before .before .before .before .before .before .pre .0) (c .before .before .before .before .put .ensures))
+returns c = λ file list starts a b g. rw (c .onward .ensures, c .before .past .ensures, c .before .before .before .before .stretch .ensures) (alone-wagons g a b (c .before .before .before .before .before .before .before .before .before .before .before .before .pre .0) (c .before .before .before .before .before .before .put .ensures))
 
 pub enter-alone-spec : {M : Type 1} → statement M
 enter-alone-spec =
@@ -67,6 +71,7 @@ enter-alone-spec =
     add-put
     add-put-2
     put-requires
+    stretch-requires
     add-domains
     cast-domains
     mul-domains
