@@ -4,5 +4,4 @@ pub mod Tests
 pub mod Stacked
 pub mod Pending
 pub mod Walk
-pub mod Pass
 pub mod Replace

@@ -8,8 +8,8 @@ use mathlib.Core.List.{List, [], _∷_, _++_, append-assoc}
 use native.Mathlib.Omega.{arith}
 use lib.Dec.{ltb}
 use lib.ListN.{length, length-append}
-use borrow.Author.Tests.{le-leb, lt-ltb}
-use Rattle.calculus.specs.Terms.{Term, tau, var, app, abs, liftIndex, lift}
+use borrow.Author.Tests.{lt-ltb}
+use Rattle.calculus.specs.Terms.{Term, tau, var, app, abs, liftIndex}
 use Rattle.code.specs.Code.{encode, Coded, coded-tau, coded-var, coded-app, coded-abs}
 use Rattle.code.specs.Scope.{scope}
 use Rattle.indices.specs.Stack.{bodyScope, after}
@@ -50,10 +50,6 @@ unfoldable pub deepest : List Item → ℕ
 deepest [] = 0
 deepest (item {t} d f ∷ W) = max (d + scope t) (deepest W)
 
-unfoldable pub liftedText : ℕ → List Item → List ℕ
-liftedText n [] = []
-liftedText n (item {t} d f ∷ W) = encode (lift n d t) ++ liftedText n W
-
 -- ---- Reading a byte.
 pub text-next : {t : Term} (d : ℕ) (f : Coded t) (W : List Item) → text (item d f ∷ W) ≡ byte t ∷ text (next d f W)
 unfolding text next byte encode
@@ -79,13 +75,6 @@ deepest-next d coded-tau W = omega arith
 deepest-next d (coded-var p q) W = omega arith
 deepest-next d (coded-app f g) W = omega arith
 deepest-next d (coded-abs f g) W = omega arith
-
-pub lifted-next : {t : Term} (n d : ℕ) (f : Coded t) (W : List Item) → liftedText n (item d f ∷ W) ≡ liftByte n d (byte t) ∷ liftedText n (next d f W)
-unfolding liftedText next byte lift liftByte liftIndex encode
-lifted-next n d coded-tau W = rw (le-leb 0 d (omega arith))
-lifted-next n d (coded-var {k} p q) W = rw (lt-ltb k 254 (low q))
-lifted-next n d (coded-app f g) W = simp append-assoc
-lifted-next n d (coded-abs f g) W = simp append-assoc
 
 -- Each part has a byte.
 positive : (t : Term) → 1 ≤ length (encode t)

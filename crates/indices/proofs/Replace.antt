@@ -14,12 +14,7 @@ use Rattle.code.proofs.RoundTrip.{length-encode}
 use Rattle.code.proofs.Parts.{stands-end, stands-rest}
 use Rattle.parts.proofs.Stores.{take-sets}
 use Rattle.parts.proofs.Standing.{stands-written}
-use Rattle.indices.specs.Passes.{Replaced, Liftable, LiftableAbove}
-use Rattle.indices.proofs.Walk.{scope-size}
-
--- A short term's scope is below its size.
-pub liftable-above : {s : List ℕ} {from e n : ℕ} → Liftable s from e n → LiftableAbove s from e n 0
-liftable-above g = record { standing = g .standing; coded = g .coded; shallow = omega (arith, scope-size (g .standing .term), g .standing .stands .place, g .standing .short) }
+use Rattle.indices.specs.Passes.{Replaced}
 
 -- Storing a term's own bytes over it changes nothing.
 sets-own : {s : List ℕ} {from e : ℕ} {t : Term} → Stands s from e t → sets s from (encode t) ≡ s

@@ -1,10 +1,9 @@
 -- A pass over a term: at place i the parts of W are still to be read; d is the scope of the first, and the stack holds those of the others.
 -- Assumes nothing.
-use Prim.Native.Nat.{ℕ, suc, _+_, _-_, _≤_, _<_}
+use Prim.Native.Nat.{ℕ, _+_, _≤_, _<_}
 use mathlib.Core.Path.{_≡_, refl, ap, sym, _∙_}
 use mathlib.Core.List.{List, [], _∷_, _++_, append-nil}
 use native.Mathlib.Omega.{arith}
-use native.Mathlib.Numerals.{add-one}
 use lib.ListN.{length, getD, drop, length-append}
 use Rattle.calculus.specs.Terms.{Term, tau, var, app, abs, size}
 use Rattle.code.specs.Limits.{longestTerm}
@@ -33,10 +32,10 @@ scope-size (app K B) = omega (arith, scope-size K, scope-size B)
 scope-size (abs U B) = omega (arith, scope-size U, scope-size B)
 
 -- At first the whole term is to be read.
-pub walk-start : {s : List ℕ} {from e c : ℕ} {t : Term} (stack : List ℕ) (h : Stands s from e t) → c + scope t < longestTerm → Roomy stack from e
-    → Walk s from e stack c 1 from (item c (h .coded) ∷ [])
+pub walk-start : {s : List ℕ} {from e : ℕ} {t : Term} (stack : List ℕ) (h : Stands s from e t) → scope t < longestTerm → Roomy stack from e
+    → Walk s from e stack 0 1 from (item 0 (h .coded) ∷ [])
 unfolding text scopes deepest pending
-walk-start {s} {from} {e} {c} {t} stack h l r =
+walk-start {s} {from} {e} {t} stack h l r =
     record {
       bytes = rw (stands-rest h, append-nil (encode t)) (h .bytes);
       place = h .place ∙ simp (length-append, length-encode) (omega arith);
@@ -82,13 +81,12 @@ module _ {s : List ℕ} {from e : ℕ} {stack : List ℕ} {d n i : ℕ} where
     unfolding scopes
     here-scope = top stack d n (w .stacked)
 
-    -- Reading a byte; what stands from the next place on is as it was.
-    pub walk-next : {s′ stack′ : List ℕ} {d′ n′ : ℕ} → drop (suc i) s′ ≡ drop (suc i) s → drop e s′ ≡ drop e s → Advanced stack stack′ d n d′ n′ (getD s i 0)
-        → Walk s′ from e stack′ d′ n′ (i + 1) (next c f W)
+    -- Reading a byte.
+    pub walk-next : {stack′ : List ℕ} {d′ n′ : ℕ} → Advanced stack stack′ d n d′ n′ (getD s i 0) → Walk s from e stack′ d′ n′ (i + 1) (next c f W)
     unfolding scopes
-    walk-next p q a =
+    walk-next a =
         record {
-          bytes = rw (add-one i, p, q) (rw (add-one i) at (drop-more s i 1 (byte t ∷ []) (text (next c f W) ++ drop e s) first refl));
+          bytes = drop-more s i 1 (byte t ∷ []) (text (next c f W) ++ drop e s) first refl;
           place = omega (arith, w .place, ap length (text-next c f W));
           stacked = a .scopes ∙ rw (here-byte, w .stacked) (sym (scopes-next c f W));
           room = rw (a .same-length) (w .room);

@@ -105,7 +105,7 @@ module _ {s out₀ out : List ℕ} {from e k d h room at : ℕ} {stack : List �
           let stored : out′ ≡ set out j (letter (liftedByte k c (byte u)) (d + c) (h + length W)) = g .there ∙ rw (here-scope c f W w, here-byte c f W w, high) refl in
           record {
             work = next c f W;
-            walk = walk-next c f W w refl refl a;
+            walk = walk-next c f W w a;
             most = max (r .most) c;
             few = omega (arith, r .few, here-scope c f W w);
             all = omega (arith, deepest-next c f W);
