@@ -1,7 +1,7 @@
 -- A stored frame: its depth, its size, what decides it, one entry more, and the entry that an index means.
 -- Assumes nothing.
 use Prim.Native.Nat.{ℕ, zero, suc, _+_, _-_, _≤_, _<_}
-use mathlib.Core.Path.{_≡_, refl, ap, sym, _∙_}
+use mathlib.Core.Path.{_≡_, refl, ap, _∙_}
 use mathlib.Core.Option.{none, some, Option·some-injective}
 use mathlib.Core.List.{List}
 use native.Mathlib.Omega.{arith}
@@ -51,10 +51,10 @@ module _ {w : List ℕ} {r : FrameRecord} {R : Frame} (h : Stored w r R) where
       let z : length (r .starts) ≡ mostAbstractors = h .room in
       record {
         work = l;
-        room = length-set (r .starts) (r .len) (r .end) ∙ h .room;
+        room = length-set (r .starts) (r .len) _ ∙ h .room;
         few = omega arith;
         inside = omega (arith, bytes-end b);
-        entries = one-entry {n = r .len + 1} {j = r .len} (omega arith) (entries-agree (h .entries) a (omega (arith, h .inside)) (agree-set (r .starts) (r .len) (r .end) (omega arith))) (getD-set-same (r .starts) (r .len) (r .end) 0 (omega arith)) b;
+        entries = one-entry {n = r .len + 1} {j = r .len} (omega arith) (entries-agree (h .entries) a (omega (arith, h .inside)) (agree-set (r .starts) (r .len) _ (omega arith))) (getD-set-same (r .starts) (r .len) _ 0 (omega arith)) b;
       }
 
 -- ---- An index that means nothing.

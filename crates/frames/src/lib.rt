@@ -1,10 +1,9 @@
 // The frame record: the place of each entry's bytes in a work array, how many there are, and where they end.
 // The empty function at the end carries the promises of specs/Claims.antt.
 ghost use mathlib.Core.Path.{_≡_};
-ghost use Prim.Native.Nat.{_≤_, _<_};
-ghost use Rattle.code.specs.Limits.{longestState, mostAbstractors};
+ghost use Prim.Native.Nat.{_≤_};
 ghost use Rattle.code.specs.Code.{Tabled};
-ghost use Rattle.frames.specs.Stored.{Holding, EmptyRecord, SomeTermFrom, EndAt, EntryAt, Parted, Looked, pushed, recordOf};
+ghost use Rattle.frames.specs.Stored.{Holding, EmptyRecord, SomeTermFrom, EndAt, EntryAt, Parted, Looked, recordOf};
 ghost use Rattle.frames.specs.Claims.{FrameLaws};
 use code::Deltas;
 use code::TermEnd;
@@ -41,20 +40,6 @@ pub fn empty_frame() -> FrameRecord
         len: 0,
         end: 0,
     }
-}
-
-// The record after an entry was written from its end up to e.
-pub fn push(f: FrameRecord, e: usize) -> FrameRecord
-    requires { ⌜ (f .len < mostAbstractors) × (f .end ≤ longestState) ⌝ }
-    ensures { λ r. ⌜ r ≡ pushed f e ⌝ }
-{
-    let n = f.len;
-    let at = f.end;
-    let mut g = f;
-    g.starts[n] = at as u16;
-    g.len = n + 1;
-    g.end = e;
-    g
 }
 
 fn wide(x: u16) -> usize
