@@ -8,7 +8,7 @@ use native.Mathlib.Omega.{arith}
 use native.Mathlib.Nat.{add-zero}
 use native.Mathlib.Numerals.{add-one}
 use lib.ListN.{length, length-append, length-drop, getD, take, drop}
-use lib.Seq.{drop-cons, drop-drop, drop-at, take-at, getD-drop}
+use lib.Seq.{drop-drop, drop-at, take-at, getD-drop}
 use Rattle.calculus.specs.Terms.{Term, tau, var, app, abs, size}
 use Rattle.code.specs.Code.{encode, Coded, coded-tau, coded-var, coded-app, coded-abs}
 use Rattle.code.specs.Claims.{Stands}
@@ -77,7 +77,3 @@ head {s} {p} {e} {t} h = go t (h .coded) (h .bytes) (h .place)
     go t (coded-var {k} x y) d q = head-var {k = k} (first-byte s p d) x y (omega arith)
     go t (coded-app {K} {B} f g) d q = head-app {m = suc p + size K} (first-byte s p d) (first-part s p e 254 K B (h .rest) d f g q) (second-part s p e 254 K B (h .rest) d f g q)
     go t (coded-abs {U} {B} f g) d q = head-abs {m = suc p + size U} (first-byte s p d) (first-part s p e 255 U B (h .rest) d f g q) (second-part s p e 255 U B (h .rest) d f g q)
-
-joined : {e : ℕ} (s : List ℕ) (p m b : ℕ) (K B : Term) → p < length s → getD s p 0 ≡ b → Stands s (suc p) m K → (k : Stands s m e B)
-    → drop p s ≡ b ∷ (encode K ++ encode B) ++ k .rest
-joined s p m b K B l q h k = drop-cons s p 0 l ∙ rw (q, h .bytes, ← stands-rest h, k .bytes, append-assoc (encode K) (encode B) (k .rest))

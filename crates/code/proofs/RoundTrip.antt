@@ -10,7 +10,7 @@ use lib.ListN.{length, length-append, drop}
 use lib.Seq.{getD-drop}
 use lib.Dec.{eqb, lit<}
 use borrow.Author.Tests.{ne-eqb, eqb-true, eqb-false}
-use Rattle.calculus.specs.Terms.{Term, tau, var, app, abs, size, lift}
+use Rattle.calculus.specs.Terms.{Term, tau, var, app, abs, size}
 use Rattle.code.specs.Code.{Symbol, symbol-tau, symbol-var, symbol-app, symbol-abs, symbol, Bytes, encode, Coded, coded-tau, coded-var, coded-app, coded-abs, takeTwo, readByte, terms, single, decode}
 use Rattle.code.specs.Claims.{Encodes}
 
@@ -28,13 +28,6 @@ odd tau = refl
 odd (var k) = refl
 odd (app K B) = omega (arith, odd K, odd B)
 odd (abs U B) = omega (arith, odd U, odd B)
-
-pub length-encode-lift : (n c : ℕ) (t : Term) → length (encode (lift n c t)) ≡ length (encode t)
-unfolding encode lift
-length-encode-lift n c tau = refl
-length-encode-lift n c (var k) = refl
-length-encode-lift n c (app K B) = simp (length-append, length-encode-lift n c K, length-encode-lift n c B)
-length-encode-lift n c (abs U B) = simp (length-append, length-encode-lift n c U, length-encode-lift n (suc c) B)
 
 -- ---- What a byte's symbol says of it.
 pub data Is (b : ℕ) : Symbol → Type 0 where

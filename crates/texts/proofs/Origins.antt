@@ -26,13 +26,6 @@ alike-lift n c alike-var = alike-var
 alike-lift n c (alike-app f g) = alike-app (alike-lift n c f) (alike-lift n c g)
 alike-lift n c (alike-abs f g) = alike-abs (alike-lift n c f) (alike-lift n (suc c) g)
 
-pub alike-unlift : {Y : Term} (n c : ℕ) (X : Term) → Alike Y (lift n c X) → Alike Y X
-unfolding lift
-alike-unlift n c tau a = a
-alike-unlift n c (var k) alike-var = alike-var
-alike-unlift n c (app K B) (alike-app f g) = alike-app (alike-unlift n c K f) (alike-unlift n c B g)
-alike-unlift n c (abs U B) (alike-abs f g) = alike-abs (alike-unlift n c U f) (alike-unlift n (suc c) B g)
-
 pub alike-size : {Y X : Term} → Alike Y X → size Y ≡ size X
 unfolding size
 alike-size alike-tau = refl
@@ -53,9 +46,6 @@ origin-own {e = e} {X} h = record { term = X; end = e; stands = h; alike = alike
 
 pub origin-lift : {t : List ℕ} {o : ℕ} {X : Term} (n c : ℕ) → Origin t o X → Origin t o (lift n c X)
 origin-lift n c g = record { term = g .term; end = g .end; stands = g .stands; alike = alike-lift n c (g .alike) }
-
-pub origin-unlift : {t : List ℕ} {o : ℕ} (n c : ℕ) (X : Term) → Origin t o (lift n c X) → Origin t o X
-origin-unlift n c X g = record { term = g .term; end = g .end; stands = g .stands; alike = alike-unlift n c X (g .alike) }
 
 module _ {t : List ℕ} {o e m : ℕ} {K L B C : Term} (h : Stands t (suc o) m L) (k : Stands t m e C) (f : Alike L K) (g : Alike C B) where
   both : Origin t (o + 1) K × Origin t (o + 1 + size K) B

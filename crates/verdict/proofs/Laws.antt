@@ -59,9 +59,6 @@ pub last-two : (n i j : ℕ) (ws : List ℕ) → n ≡ length ws → last n (i �
 unfolding last
 last-two n i j ws h = let e : suc (suc (length ws)) - n ≡ 2 = omega arith in rw e
 
-then-is : {x y : Run} (f : Progress → Run) → x ≡ y → andThen x f ≡ andThen y f
-then-is f q = ap (λ (x : Run). andThen x f) q
-
 two-parts : (a b : Item) (p : Progress) → finish (a ∷ b ∷ []) p ≡ andThen (finish (a ∷ []) p) (finish (b ∷ []))
 two-parts a b p = in-parts (a ∷ []) (b ∷ []) p
 

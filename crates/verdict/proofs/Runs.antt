@@ -6,7 +6,7 @@ use mathlib.Core.Bool.{Bool, true, false, cond}
 use native.Mathlib.Omega.{arith}
 use borrow.Author.Tests.{eqb-true, eq-eqb}
 use Rattle.calculus.specs.Terms.{Term, tau, var, app, abs}
-use Rattle.verdict.specs.Verdict.{Ground, Progress, Run, passed, stopped, identical}
+use Rattle.verdict.specs.Verdict.{Ground, Progress, passed, stopped, identical}
 
 pub no-pass : {A : Type 0} {g : Ground} {p q : Progress} → stopped g p ≡ passed q → A
 no-pass e = let z : _≡_ {A = ℕ} 0 1 = cc in let y : ⊥ = omega arith in absurd y
@@ -20,11 +20,6 @@ false-true e = let z : _≡_ {A = ℕ} 0 1 = cc in let y : ⊥ = omega arith in 
 pub cond-both : (a b : Bool) → cond a b false ≡ true → (a ≡ true) × (b ≡ true)
 cond-both true b e = (refl, e)
 cond-both false b e = false-true e
-
--- a test that decides whether a run at-turn on
-pub cond-passed : (b : Bool) (x : Run) (g : Ground) (p q : Progress) → cond b x (stopped g p) ≡ passed q → (b ≡ true) × (x ≡ passed q)
-cond-passed true x g p q e = (refl, e)
-cond-passed false x g p q e = no-pass e
 
 pub identical-eq : (l r : Term) → identical l r ≡ true → l ≡ r
 unfolding identical

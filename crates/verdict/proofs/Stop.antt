@@ -95,9 +95,6 @@ at-most (big-met m b) (asks-same a) = omega (arith, at-most b a, m .counted)
 at-most (big-refused r) a = omega (arith, r .moved .comparisons)
 
 -- A STOP has a number, or it is one of the walk, and not because something waits
-ground-is : {g h : Ground} {p q : Progress} → stopped g p ≡ stopped h q → g ≡ h
-ground-is e = cc
-
 record Wants (qs : List Question) : Type 0 where
   why : Stop
   other : why ≡ waiting → ⊥
