@@ -3,6 +3,7 @@ ghost use mathlib.Core.Path.{_≡_};
 ghost use Prim.Native.Nat.{_+_, _-_, _≤_, _<_, max};
 ghost use lib.ListN.{length};
 ghost use Rattle.code.specs.Limits.{longestTerm};
+ghost use Rattle.frames.specs.Stored.{recordOf};
 ghost use Rattle.letters.specs.Letters.{depthOf};
 ghost use Rattle.parts.specs.Parts.{Copied};
 ghost use Rattle.bodies.specs.Held.{SomeHeld, InBody, Steps, Types};
@@ -11,7 +12,7 @@ ghost use Rattle.bodies.specs.Moving.{Ending, LiftableLetter, liftedLett
 ghost use Rattle.bodies.specs.Putting.{Sourced, SourceWritten, Puttable, PutsTerm};
 use code::numbers::LONGEST_TERM;
 use code::numbers::MOST_ABSTRACTORS;
-use frames::FrameRecord;
+use frames::Starts;
 use frames::Work;
 use frames::entry_at;
 use letters::ABSTRACTOR;
@@ -308,11 +309,18 @@ fn put(s: &mut Letters, n: usize, work: &Work, len: usize, p: usize, x: Source) 
 }
 
 // ---- Steps of kind 1, at place p.
-pub fn local(s: &mut Letters, n: usize, work: &Work, f: FrameRecord, p: usize) -> Form
-    requires { ⌜ InBody (now work) f (now s) n p ⌝ }
-    ensures { λ r. ⌜ Steps (now (work .entry)) f (now (s .entry)) (now (s .exit)) n (record { kind = 1; place = p }) r ⌝ }
+pub fn local(
+    s: &mut Letters,
+    n: usize,
+    work: &Work,
+    starts: &Starts,
+    len: usize,
+    end: usize,
+    p: usize,
+) -> Form
+    requires { ⌜ InBody (now work) (recordOf (now starts) len end) (now s) n p ⌝ }
+    ensures { λ r. ⌜ Steps (now (work .entry)) (recordOf (now (starts .entry)) len end) (now (s .entry)) (now (s .exit)) n (record { kind = 1; place = p }) r ⌝ }
 {
-    let len = f.len;
     let v = s[p];
     let k = symbol_of(v);
     if k == 0 {
@@ -336,7 +344,7 @@ pub fn local(s: &mut Letters, n: usize, work: &Work, f: FrameRecord, p: usize) -
         };
         return put(s, n, work, len, p, x);
     }
-    let e = entry_at(work, f, k - d);
+    let e = entry_at(work, starts, len, end, k - d);
     let start = e.applied;
     if start == 0 {
         return Form::Refused(NO_PARTNER);
@@ -351,11 +359,17 @@ pub fn local(s: &mut Letters, n: usize, work: &Work, f: FrameRecord, p: usize) -
 }
 
 // ---- The type of the body in the first n letters takes its place: U for its last variable.
-pub fn type_in_place(s: &mut Letters, n: usize, work: &Work, f: FrameRecord) -> Form
-    requires { ⌜ SomeHeld (now work) f (now s) n ⌝ }
-    ensures { λ r. ⌜ Types (now (work .entry)) f (now (s .entry)) (now (s .exit)) n r ⌝ }
+pub fn type_in_place(
+    s: &mut Letters,
+    n: usize,
+    work: &Work,
+    starts: &Starts,
+    len: usize,
+    end: usize,
+) -> Form
+    requires { ⌜ SomeHeld (now work) (recordOf (now starts) len end) (now s) n ⌝ }
+    ensures { λ r. ⌜ Types (now (work .entry)) (recordOf (now (starts .entry)) len end) (now (s .entry)) (now (s .exit)) n r ⌝ }
 {
-    let len = f.len;
     let p = n - 1;
     let v = s[p];
     let k = symbol_of(v);
@@ -366,16 +380,16 @@ pub fn type_in_place(s: &mut Letters, n: usize, work: &Work, f: FrameRecord) -> 
     if k <= d {
         let q = abstractor_of(s, p, d - k);
         let h = height_of(s[q]);
-        let end = end_of(s, n, q + 1, h + 1);
+        let to = end_of(s, n, q + 1, h + 1);
         let x = Source {
             framed: false,
             start: q + 1,
-            end: end,
+            end: to,
             lift: k,
         };
         return put(s, n, work, len, p, x);
     }
-    let e = entry_at(work, f, k - d);
+    let e = entry_at(work, starts, len, end, k - d);
     let x = Source {
         framed: true,
         start: e.domain,

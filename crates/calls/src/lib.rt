@@ -92,7 +92,7 @@ fn type_accepted(s: &[u8], out: &mut [u8]) -> TypeAnswer
     open_body(s, &mut body);
     let work: Work = [0; LONGEST_STATE];
     let f = frames::empty_frame();
-    let typed = bodies::type_in_place(&mut body, s.len(), &work, f);
+    let typed = bodies::type_in_place(&mut body, s.len(), &work, &f.starts, f.len, f.end);
     match typed {
         Form::Refused(_) => TypeAnswer::Nothing,
         Form::Outgrown => TypeAnswer::Answer(OUTGROWN, 0, 0),
@@ -123,7 +123,16 @@ fn step_accepted(s: &[u8], kind: u8, place: usize, out: &mut [u8]) -> StepAnswer
     open_body(s, &mut body);
     let work: Work = [0; LONGEST_STATE];
     let f = frames::empty_frame();
-    let stepped = steps::step_in_place(&mut body, s.len(), &work, f, kind, place);
+    let stepped = steps::step_in_place(
+        &mut body,
+        s.len(),
+        &work,
+        &f.starts,
+        f.len,
+        f.end,
+        kind,
+        place,
+    );
     match stepped {
         Form::Refused(_) => StepAnswer {
             number: STEP_NOT_POSSIBLE,

@@ -19,7 +19,6 @@ use code::numbers::STEP_NOT_POSSIBLE;
 use fields::GroupSpan;
 use fields::group_at;
 use fields::step_at;
-use frames::FrameRecord;
 use frames::Starts;
 use frames::Work;
 use letters::Letters;
@@ -67,17 +66,19 @@ fn replay(
     body: &mut Letters,
     n: usize,
     work: &Work,
-    f: FrameRecord,
+    starts: &Starts,
+    len: usize,
+    end: usize,
 ) -> Replayed
-    requires { ⌜ StepRange (now file) from to × SomeHeld (now work) f (now body) n ⌝ }
-    ensures { λ r. ⌜ Replays (now (file .entry)) from to side (now (work .entry)) f (now (body .entry)) (now (body .exit)) n r ⌝ }
+    requires { ⌜ StepRange (now file) from to × SomeHeld (now work) (recordOf (now starts) len end) (now body) n ⌝ }
+    ensures { λ r. ⌜ Replays (now (file .entry)) from to side (now (work .entry)) (recordOf (now (starts .entry)) len end) (now (body .entry)) (now (body .exit)) n r ⌝ }
 {
     let mut at = from;
-    let mut len = n;
+    let mut size = n;
     let mut step = 0;
     while at < to {
         let s = step_at(file, at);
-        let stepped = step_in_place(body, len, work, f, s.kind, s.place);
+        let stepped = step_in_place(body, size, work, starts, len, end, s.kind, s.place);
         match stepped {
             Form::Refused(reason) => {
                 return Replayed {
@@ -98,7 +99,7 @@ fn replay(
                 };
             }
             Form::Length(m) => {
-                len = m;
+                size = m;
                 at += 3;
                 step += 1;
             }
@@ -106,7 +107,7 @@ fn replay(
     }
     Replayed {
         number: ACCEPTED,
-        len: len,
+        len: size,
         side: 0,
         step: 0,
         reason: 0,
@@ -118,16 +119,18 @@ fn compare_sides(
     file: &[u8],
     g: GroupSpan,
     work: &Work,
-    f: FrameRecord,
+    starts: &Starts,
+    len: usize,
+    end: usize,
     left: &mut Letters,
     n: usize,
     right: &mut Letters,
     k: usize,
 ) -> Compared
-    requires { ⌜ TwoSides (now file) g (now work) f (now left) n (now right) k ⌝ }
-    ensures { λ r. ⌜ Sides (now (file .entry)) g (now (work .entry)) f (now (left .entry)) n (now (right .entry)) k r (now (left .exit)) (now (right .exit)) × Buffers (now (left .exit)) (now (right .exit)) ⌝ }
+    requires { ⌜ TwoSides (now file) g (now work) (recordOf (now starts) len end) (now left) n (now right) k ⌝ }
+    ensures { λ r. ⌜ Sides (now (file .entry)) g (now (work .entry)) (recordOf (now (starts .entry)) len end) (now (left .entry)) n (now (right .entry)) k r (now (left .exit)) (now (right .exit)) × Buffers (now (left .exit)) (now (right .exit)) ⌝ }
 {
-    let l = replay(file, g.left, g.middle, 0, left, n, work, f);
+    let l = replay(file, g.left, g.middle, 0, left, n, work, starts, len, end);
     if l.number != ACCEPTED {
         return Compared {
             number: l.number,
@@ -137,7 +140,7 @@ fn compare_sides(
             third: l.reason,
         };
     }
-    let r = replay(file, g.right, g.next, 1, right, k, work, f);
+    let r = replay(file, g.right, g.next, 1, right, k, work, starts, len, end);
     if r.number != ACCEPTED {
         return Compared {
             number: r.number,
@@ -179,15 +182,17 @@ fn compare_type(
     file: &[u8],
     at: usize,
     work: &Work,
-    f: FrameRecord,
+    starts: &Starts,
+    len: usize,
+    end: usize,
     m: usize,
     e: usize,
     left: &mut Letters,
     n: usize,
     right: &mut Letters,
 ) -> Compared
-    requires { ⌜ Typing (now file) (now work) at f m e (now left) n × Buffers (now left) (now right) ⌝ }
-    ensures { λ r. ⌜ ComparesType (now (file .entry)) (now (work .entry)) at f m e (now (left .entry)) n r (now (left .exit)) (now (right .exit)) × Buffers (now (left .exit)) (now (right .exit)) ⌝ }
+    requires { ⌜ Typing (now file) (now work) at (recordOf (now starts) len end) m e (now left) n × Buffers (now left) (now right) ⌝ }
+    ensures { λ r. ⌜ ComparesType (now (file .entry)) (now (work .entry)) at (recordOf (now (starts .entry)) len end) m e (now (left .entry)) n r (now (left .exit)) (now (right .exit)) × Buffers (now (left .exit)) (now (right .exit)) ⌝ }
 {
     if at >= file.len() {
         return Compared {
@@ -198,7 +203,7 @@ fn compare_type(
             third: 0,
         };
     }
-    if !load(work, m + 1, e, f.len, right) {
+    if !load(work, m + 1, e, len, right) {
         return Compared {
             number: OUTGROWN,
             next: at,
@@ -208,7 +213,7 @@ fn compare_type(
         };
     }
     let g = group_at(file, at);
-    compare_sides(file, g, work, f, left, n, right, e - (m + 1))
+    compare_sides(file, g, work, starts, len, end, left, n, right, e - (m + 1))
 }
 
 // The comparison of ⟨K⟩[U], which stands in the work array from the frame's end up to e, with the group at `at`: K ends at m. The two
@@ -228,15 +233,9 @@ pub fn compare(
     requires { ⌜ Comparing (now file) (now work) at (recordOf (now starts) len end) m e × Buffers (now left) (now right) ⌝ }
     ensures { λ r. ⌜ Compares (now (file .entry)) (now (work .entry)) at (recordOf (now (starts .entry)) len end) m e r (now (left .exit)) (now (right .exit)) × Buffers (now (left .exit)) (now (right .exit)) ⌝ }
 {
-    let own = *starts;
-    let f = FrameRecord {
-        starts: own,
-        len,
-        end,
-    };
     let start = end + 1;
     let loaded = load(work, start, m, len, left);
-    let typed = type_in_place(left, m - start, work, f);
+    let typed = type_in_place(left, m - start, work, starts, len, end);
     match typed {
         Form::Refused(_) => Compared {
             number: NO_TYPE,
@@ -263,6 +262,6 @@ pub fn compare(
                 third: 0,
             }
         }
-        Form::Length(n) => compare_type(file, at, work, f, m, e, left, n, right),
+        Form::Length(n) => compare_type(file, at, work, starts, len, end, m, e, left, n, right),
     }
 }

@@ -2,15 +2,12 @@
 // The empty function at the end carries the promises of specs/Claims.antt.
 ghost use mathlib.Core.Path.{_≡_};
 ghost use Prim.Native.Nat.{_≤_};
-ghost use Rattle.code.specs.Code.{Tabled};
 ghost use Rattle.frames.specs.Stored.{Holding, EmptyRecord, SomeTermFrom, EndAt, EntryAt, Parted, Looked, recordOf};
 ghost use Rattle.frames.specs.Claims.{FrameLaws};
-use code::Deltas;
 use code::TermEnd;
 use code::numbers::LONGEST_STATE;
 use code::numbers::MOST_ABSTRACTORS;
-use code::table;
-use code::term_end_by;
+use code::term_end;
 
 // The work array (document 01: 'one [0; LONGEST_STATE] byte array').
 pub type Work = [u8; LONGEST_STATE];
@@ -49,20 +46,20 @@ fn wide(x: u16) -> usize
 }
 
 // Where the term that starts at p ends.
-pub fn end_of(deltas: &Deltas, work: &Work, p: usize) -> usize
-    requires { ⌜ Tabled (now deltas) × SomeTermFrom (now work) p ⌝ }
+fn end_of(work: &Work, p: usize) -> usize
+    requires { ⌜ SomeTermFrom (now work) p ⌝ }
     ensures { λ r. ⌜ EndAt (now (work .entry)) p r ⌝ }
 {
     let all = &work[..];
-    let TermEnd::At(e) = term_end_by(deltas, all, p) else {
+    let TermEnd::At(e) = term_end(all, p) else {
         return p;
     };
     e
 }
 
 // The parts of the entry whose bytes stand from p up to e.
-fn parts_of(deltas: &Deltas, work: &Work, p: usize, e: usize) -> Span
-    requires { ⌜ Tabled (now deltas) × EntryAt (now work) p e ⌝ }
+fn parts_of(work: &Work, p: usize, e: usize) -> Span
+    requires { ⌜ EntryAt (now work) p e ⌝ }
     ensures { λ r. ⌜ Parted (now (work .entry)) p e r ⌝ }
 {
     if work[p] == 0xff {
@@ -72,7 +69,7 @@ fn parts_of(deltas: &Deltas, work: &Work, p: usize, e: usize) -> Span
             end: e,
         };
     }
-    let m = end_of(deltas, work, p + 1);
+    let m = end_of(work, p + 1);
     Span {
         applied: p + 1,
         domain: m + 1,
@@ -80,17 +77,9 @@ fn parts_of(deltas: &Deltas, work: &Work, p: usize, e: usize) -> Span
     }
 }
 
-// The parts of the entry that index k means, with a table of what each byte does to the balance. The record comes in its
-// parts, so that looking an entry up does not copy it.
-pub fn entry_at_by(
-    deltas: &Deltas,
-    work: &Work,
-    starts: &Starts,
-    len: usize,
-    end: usize,
-    k: usize,
-) -> Span
-    requires { ⌜ Tabled (now deltas) × Holding (now work) (recordOf (now starts) len end) × (1 ≤ k) × (k ≤ len) ⌝ }
+// The parts of the entry that index k means. The record comes in its parts, so that looking an entry up does not copy it.
+pub fn entry_at(work: &Work, starts: &Starts, len: usize, end: usize, k: usize) -> Span
+    requires { ⌜ Holding (now work) (recordOf (now starts) len end) × (1 ≤ k) × (k ≤ len) ⌝ }
     ensures { λ r. ⌜ Looked (now (work .entry)) (recordOf (now (starts .entry)) len end) k r ⌝ }
 {
     let i = len - k;
@@ -99,16 +88,7 @@ pub fn entry_at_by(
     if k > 1 {
         e = wide(starts[i + 1]);
     }
-    parts_of(deltas, work, p, e)
-}
-
-// The same, with a table of its own.
-pub fn entry_at(work: &Work, f: FrameRecord, k: usize) -> Span
-    requires { ⌜ Holding (now work) f × (1 ≤ k) × (k ≤ f .len) ⌝ }
-    ensures { λ r. ⌜ Looked (now (work .entry)) f k r ⌝ }
-{
-    let deltas = table();
-    entry_at_by(&deltas, work, &f.starts, f.len, f.end, k)
+    parts_of(work, p, e)
 }
 
 pub fn frame_laws()

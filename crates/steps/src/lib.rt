@@ -5,6 +5,7 @@ ghost use Prim.Native.Nat.{ℕ, _+_, _-_, _≤_, _<_, max};
 ghost use lib.ListN.{length};
 ghost use Rattle.code.specs.Limits.{longestTerm};
 ghost use Rattle.frames.specs.declared.FrameRecord.{FrameRecord as Record};
+ghost use Rattle.frames.specs.Stored.{recordOf};
 ghost use Rattle.letters.specs.Letters.{depthOf};
 ghost use Rattle.parts.specs.Parts.{part, Copied};
 ghost use Rattle.bodies.specs.Held.{SomeHeld, Steps};
@@ -27,7 +28,7 @@ use bodies::move_right;
 use bodies::narrow;
 use code::numbers::LONGEST_TERM;
 use code::numbers::MOST_ABSTRACTORS;
-use frames::FrameRecord;
+use frames::Starts;
 use frames::Work;
 use letters::APPLICATOR;
 use letters::Letters;
@@ -355,17 +356,19 @@ fn whole(s: &mut Letters, n: usize, p: usize, len: usize) -> Form
     Form::Length(kept + size)
 }
 
-// ---- One step on the body in the first n letters, after the frame that f holds in work: the form that it reaches takes the body's place.
+// ---- One step on the body in the first n letters, after the frame whose record is lent in its parts: the form that it reaches takes the body's place.
 pub fn step_in_place(
     s: &mut Letters,
     n: usize,
     work: &Work,
-    f: FrameRecord,
+    starts: &Starts,
+    len: usize,
+    end: usize,
     kind: u8,
     place: usize,
 ) -> Form
-    requires { ⌜ SomeHeld (now work) f (now s) n ⌝ }
-    ensures { λ r. ⌜ Steps (now (work .entry)) f (now (s .entry)) (now (s .exit)) n (record { kind = kind; place = place }) r ⌝ }
+    requires { ⌜ SomeHeld (now work) (recordOf (now starts) len end) (now s) n ⌝ }
+    ensures { λ r. ⌜ Steps (now (work .entry)) (recordOf (now (starts .entry)) len end) (now (s .entry)) (now (s .exit)) n (record { kind = kind; place = place }) r ⌝ }
 {
     if kind == 0 {
         return Form::Refused(UNKNOWN_KIND);
@@ -377,10 +380,10 @@ pub fn step_in_place(
         return Form::Refused(PAST_END);
     }
     if kind == 1 {
-        return local(s, n, work, f, place);
+        return local(s, n, work, starts, len, end, place);
     }
     if kind == 2 {
         return removal(s, n, place);
     }
-    whole(s, n, place, f.len)
+    whole(s, n, place, len)
 }

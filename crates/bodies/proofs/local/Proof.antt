@@ -38,8 +38,8 @@ mul-depth-of c = omega (arith, (applicator-there (c .before .before .before .bef
 element-copy-out-depth-of : tie.Need-element-copy-out-depth-of
 element-copy-out-depth-of c = omega (arith, (applicator-there (c .before .before .before .before .depth-of .ensures .0) (c .before .before .before .if3 .taken) (c .before .find .ensures) (c .if4 .left) (c .before .before .before .before .before .before .before .before .before .pre) (c .before .before .before .before .before .before .before .symbol-of .ensures .0) (omega (arith, c .before .before .before .before .before .before .if1 .left)) (omega (arith, c .before .before .before .before .before .if2 .left))), place-inside (c .before .before .before .before .before .before .before .before .before .pre))
 
-sub-t29 : tie.Need-sub-t29
-sub-t29 c = omega (arith, (applicator-there (c .before .before .before .before .before .before .depth-of .ensures .0) (c .before .before .before .before .before .if3 .taken) (c .before .before .before .find .ensures) (c .before .before .if4 .left) (c .before .before .before .before .before .before .before .before .before .before .before .pre) (c .before .before .before .before .before .before .before .before .before .symbol-of .ensures .0) (omega (arith, c .before .before .before .before .before .before .before .before .if1 .left)) (omega (arith, c .before .before .before .before .before .before .before .if2 .left))), c .depth-of2 .ensures .0)
+sub-t30 : tie.Need-sub-t30
+sub-t30 c = omega (arith, (applicator-there (c .before .before .before .before .before .before .depth-of .ensures .0) (c .before .before .before .before .before .if3 .taken) (c .before .before .before .find .ensures) (c .before .before .if4 .left) (c .before .before .before .before .before .before .before .before .before .before .before .pre) (c .before .before .before .before .before .before .before .before .before .symbol-of .ensures .0) (omega (arith, c .before .before .before .before .before .before .before .before .if1 .left)) (omega (arith, c .before .before .before .before .before .before .before .if2 .left))), c .depth-of2 .ensures .0)
 
 put-requires : tie.Need-put-requires
 put-requires c κs = puttable (c .before .before .before .before .before .before .before .before .before .before .before .before .pre) (c .before .before .before .before .before .before .before .before .before .before .symbol-of .ensures .0) (omega (arith, c .before .before .before .before .before .before .before .before .before .if1 .left)) (omega (arith, c .before .before .before .before .before .before .before .before .if2 .left)) (partner-inside (c .before .before .before .before .before .before .before .depth-of .ensures .0) (c .before .before .before .before .before .before .if3 .taken) (c .before .before .before .before .find .ensures) (c .before .before .before .if4 .left) (c .before .depth-of2 .ensures .0))
@@ -53,8 +53,8 @@ entry-at-requires c κs = looked-up (c .before .depth-of .ensures .0) (c .if3 .l
 returns-5 : tie.Need-returns-5
 returns-5 c = local-alone (c .before .before .before .before .before .before .before .before .pre) (c .before .before .before .before .before .before .symbol-of .ensures .0) (omega (arith, c .before .before .before .before .before .if1 .left)) (omega (arith, c .before .before .before .before .if2 .left)) (alone-outside (c .before .before .before .depth-of .ensures .0) (c .before .before .if3 .left) (c .before .entry-at .ensures) (c .if5 .taken))
 
-sub-t16 : tie.Need-sub-t16
-sub-t16 c = omega (arith, domain-positive (c .before .before .before .before .depth-of .ensures .0) (c .before .before .before .if3 .left) (c .before .before .entry-at .ensures) (c .before .before .before .before .before .before .before .before .before .pre) (c .before .if5 .left))
+sub-t17 : tie.Need-sub-t17
+sub-t17 c = omega (arith, domain-positive (c .before .before .before .before .depth-of .ensures .0) (c .before .before .before .if3 .left) (c .before .before .entry-at .ensures) (c .before .before .before .before .before .before .before .before .before .pre) (c .before .if5 .left))
 
 put-requires-2 : tie.Need-put-requires-2
 put-requires-2 c κs = puttable (c .before .before .before .before .before .before .before .before .before .before .pre) (c .before .before .before .before .before .before .before .before .symbol-of .ensures .0) (omega (arith, c .before .before .before .before .before .before .before .if1 .left)) (omega (arith, c .before .before .before .before .before .before .if2 .left)) (partner-outside (c .before .before .before .before .before .depth-of .ensures .0) (c .before .before .before .before .if3 .left) (c .before .before .before .entry-at .ensures) (c .before .before .if5 .left))
@@ -78,12 +78,12 @@ local-spec =
     mul-depth-of
     element-copy-out-depth-of
     (λ c κs. search needs)
-    sub-t29
+    sub-t30
     put-requires
     returns-4
     (λ c. search needs)
     entry-at-requires
     returns-5
-    sub-t16
+    sub-t17
     put-requires-2
     returns-6)

@@ -4,15 +4,16 @@ use Prim.Native.Nat.{_-_}
 use native.Mathlib.Omega.{arith}
 use borrow.Author.Needs.{needs}
 use Rattle.fields.proofs.Groups.{next-step}
+use Rattle.frames.specs.Stored.{recordOf}
 use Rattle.compare.proofs.Replaying.{Replaying, replaying-start, replaying-refused, replaying-outgrown, replaying-next, replaying-end}
 use Rattle.compare.proofs.replay.Statement.{statement}
 use Rattle.compare.proofs.replay.Tie as tie
 
 abbrev Inv-loop : tie.InvT-loop
-Inv-loop file from to side body₀ n work f at₀ len₀ step₀ body at len step = Replaying file from to work f body₀ n body at len step
+Inv-loop file from to side body₀ n work starts len end at₀ size₀ step₀ body at size step = Replaying file from to work (recordOf starts len end) body₀ n body at size step
 
 abbrev μ-loop : tie.MeasureT-loop
-μ-loop file from to side body₀ n work f at₀ len₀ step₀ body at len step = to - at
+μ-loop file from to side body₀ n work starts len end at₀ size₀ step₀ body at size step = to - at
 
 loop-holds : tie.Need-loop-holds Inv-loop μ-loop
 loop-holds c = replaying-start (c .before .pre .0) (c .before .pre .1)

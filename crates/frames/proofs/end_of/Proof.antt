@@ -7,8 +7,8 @@ use Rattle.frames.proofs.Laws.{end-at, ends-somewhere}
 use Rattle.frames.proofs.end_of.Statement.{statement}
 use Rattle.frames.proofs.end_of.Tie as tie
 
-term-end-by-requires : tie.Need-term-end-by-requires
-term-end-by-requires c κs = search needs
+term-end-requires : tie.Need-term-end-requires
+term-end-requires c κs = search needs
 
 enum-known-e : tie.Need-enum-known-e
 enum-known-e c = search needs
@@ -17,10 +17,10 @@ enum-told : tie.Need-enum-told
 enum-told c = search needs
 
 returns : tie.Need-returns
-returns c = absurd (ends-somewhere (c .before .before .before .before .pre .1) (sym (ap endOf (c .enum-told .given .1)) ∙ c .before .before .term-end-by .ensures))
+returns c = absurd (ends-somewhere (c .before .before .before .before .pre) (sym (ap endOf (c .enum-told .given .1)) ∙ c .before .before .term-end .ensures))
 
 returns-2 : tie.Need-returns-2
-returns-2 c = end-at (sym (ap endOf (c .before .e .given .1)) ∙ c .before .before .before .term-end-by .ensures)
+returns-2 c = end-at (sym (ap endOf (c .before .e .given .1)) ∙ c .before .before .before .term-end .ensures)
 
 pub end-of-spec : {M : Type 1} → statement M
-end-of-spec = tie.close (tie.spec term-end-by-requires enum-known-e enum-told returns returns-2)
+end-of-spec = tie.close (tie.spec term-end-requires enum-known-e enum-told returns returns-2)

@@ -1,14 +1,14 @@
--- `frames::entry_at_by` meets its contract.
+-- `frames::entry_at` meets its contract.
 -- Assumes nothing.
 use mathlib.Core.Path.{_∙_}
 use mathlib.Core.Logic.{⊎-elim}
 use native.Mathlib.Omega.{arith}
 use borrow.Author.Needs.{needs}
 use Rattle.frames.proofs.Laws.{Ends, ends-last, ends-inner, entry-bounds, looked}
-use Rattle.frames.proofs.entry_at_by.Statement.{statement}
-use Rattle.frames.proofs.entry_at_by.Tie as tie
-use Rattle.frames.proofs.entry_at_by.Reads as reads
-use Rattle.frames.proofs.entry_at_by.Lts as lts
+use Rattle.frames.proofs.entry_at.Statement.{statement}
+use Rattle.frames.proofs.entry_at.Tie as tie
+use Rattle.frames.proofs.entry_at.Reads as reads
+use Rattle.frames.proofs.entry_at.Lts as lts
 use Rattle.frames.proofs.parts_of.Reads as parts-of-reads
 use Rattle.frames.proofs.wide.Reads as wide-reads
 
@@ -44,12 +44,12 @@ ends c = ⊎-elim (λ w. ends-inner (omega arith) (w .3 ∙ w .2 .ensures)) (λ 
 parts-of-requires : tie.Need-parts-of-requires
 parts-of-requires c κs =
     let i = c .before .before .before .pre in
-    (i .0, entry-bounds (i .2) (i .3) (ends c) (c .before .wide .ensures) (i .1))
+    entry-bounds (i .1) (i .2) (ends c) (c .before .wide .ensures) (i .0)
 
 returns : tie.Need-returns
 returns c =
     let i = c .before .before .before .before .pre in
-    looked (i .2) (i .3) (ends (c .before)) (c .before .before .wide .ensures) (i .1) (c .parts-of .ensures)
+    looked (i .1) (i .2) (ends (c .before)) (c .before .before .wide .ensures) (i .0) (c .parts-of .ensures)
 
-pub entry-at-by-spec : {M : Type 1} → statement M
-entry-at-by-spec = tie.close (tie.spec sub-i mul-wide element-copy-out-wide wide-requires add-wide mul-wide-2 element-copy-out-wide-2 wide-requires-2 parts-of-requires returns)
+pub entry-at-spec : {M : Type 1} → statement M
+entry-at-spec = tie.close (tie.spec sub-i mul-wide element-copy-out-wide wide-requires add-wide mul-wide-2 element-copy-out-wide-2 wide-requires-2 parts-of-requires returns)
