@@ -37,8 +37,10 @@ use waiting::wide16;
 // The answer where a lent list has no room for one more waiting applicator. No answer of a call is this one.
 pub const LIST_FULL: u32 = 254;
 
-// So many numbers are enough for all that can wait: six for each of 6,144.
+// So many numbers are enough for all that can wait: six for each of 6,144. Where little is copied, a third is enough.
 pub const LONGEST_LIST: usize = 36864;
+
+const USUAL_LIST: usize = 12288;
 
 // What a turn comes to: an answer, another state, that what stands inside an applicator or an abstractor must be checked first, or that
 // a comparison is due.
@@ -1010,8 +1012,8 @@ pub fn walk_term(
     let mut sizes: [u16; LONGEST_TERM] = [0; LONGEST_TERM];
     let mut scopes: [u16; LONGEST_TERM] = [0; LONGEST_TERM];
     let mut depths: [u8; LONGEST_TERM] = [0; LONGEST_TERM];
-    let mut list: [u16; LONGEST_LIST] = [0; LONGEST_LIST];
-    whole(
+    let mut list: [u16; USUAL_LIST] = [0; USUAL_LIST];
+    let q = whole(
         file,
         t,
         at,
@@ -1019,6 +1021,21 @@ pub fn walk_term(
         &mut scopes[..],
         &mut depths[..],
         &mut list[..],
+        left,
+        right,
+    );
+    if q.number != LIST_FULL {
+        return q;
+    }
+    let mut long: [u16; LONGEST_LIST] = [0; LONGEST_LIST];
+    whole(
+        file,
+        t,
+        at,
+        &mut sizes[..],
+        &mut scopes[..],
+        &mut depths[..],
+        &mut long[..],
         left,
         right,
     )
