@@ -331,10 +331,8 @@ module _ {x : Text} {m : Arrays} {f : FrameRecord} {s : WalkState} {R : Frame} {
             agree-trans (agree-part (applied-written .above) (omega (arith, stands-start (domain-whole .stands))) (omega arith)) (domain-whole .above),
           )
 
-          pub pair-end : (c ≡ f .end + suc k + suc n) × (f .end ≤ c) × (a + 1 < 65536) × (c < 65536)
-          pair-end =
-              let h = domain-whole .stands .place in
-              (omega (arith, applied-past .0, last-size, taken-size), omega (arith, applied-past .1), omega (arith, applied-past .2), omega (arith, stands-end (domain-whole .stands), domain-whole .work))
+          pub pair-end : (c ≡ f .end + suc k + suc n) × (f .end ≤ c)
+          pair-end = let h = domain-whole .stands .place in (omega (arith, applied-past .0, last-size, taken-size), omega (arith, applied-past .1))
 
           applied-now : Stands w₂ (suc (f .end)) a (w .term)
           applied-now = stands-agree (applied-written .stands) (agree-part (domain-whole .below) (omega arith) (omega arith)) (omega (arith, domain-whole .work, stands-start (domain-whole .stands), stands-end (domain-whole .stands)))

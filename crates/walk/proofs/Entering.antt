@@ -30,7 +30,7 @@ use Rattle.walk.specs.Contracts.{answering, going, pastOf, pairing, comp
 use Rattle.walk.specs.declared.WalkState.{WalkState}
 use Rattle.walk.specs.declared.Turned.{Turned}
 use Rattle.walk.proofs.States.{no-confusion, entryArrays, Room, room, origin-bound}
-use Rattle.walk.proofs.Enter.{Taken, two-abs, origins-abs, fewer-entries, past-bounds, further, domain-writable, domain-written, alone-room, alone-becomes, last-size, applied-asked, domain-asked, pair-below, pair-end, comparing, last-copied, taken-copied, copied-size, copied-becomes, last-waiting, taken-waiting, one-waits, waiting-size, waiting-stops, waiting-becomes}
+use Rattle.walk.proofs.Enter.{Taken, two-abs, origins-abs, fewer-entries, past-bounds, further, domain-writable, domain-written, alone-room, alone-becomes, last-size, applied-asked, applied-past, domain-asked, pair-below, pair-end, comparing, last-copied, taken-copied, copied-size, copied-becomes, last-waiting, taken-waiting, one-waits, waiting-size, waiting-stops, waiting-becomes}
 
 settled-to : {x : Text} {m : Arrays} {f : FrameRecord} {s : WalkState} {a b : List ℕ} {r r′ : Turned} {n : ℕ} {y : Run} → r ≡ r′ → Becomes x m f s a b r′ n y → Becomes x m f s a b r n y
 settled-to e h = rw e h
@@ -101,11 +101,14 @@ module _ {x : Text} {m : Arrays} {f : FrameRecord} {s : WalkState} {n : ℕ} (g 
       last-asked apart d = applied-asked here (has-room here) (g .high) (g .no-app) (size-here here) l last-known apart d
 
       module _ {w₁ : List ℕ} {a : ℕ} (u : Puts 0xfe (cond b (x .term) (m .work)) (m .work) w₁ (v .at + 1) (v .at + 1 + k) (v .shift) (v .cut) (f .len - v .depth) (f .end) a) where
+        pub pair-middle : a + 1 < 65536
+        pair-middle = omega (arith, applied-past here (has-room here) (g .high) (g .no-app) (size-here here) l last-known u)
+
         pub pair-domain : {depths : List ℕ} → DepthsKnown (x .term) depths → PutAsked (x .term) depths w₁ (s .«in_term») (s .from + 1) (s .from + 1 + n) (s .origin + 1) a (s .shift) (s .cut) 0
         pair-domain d = domain-asked here (has-room here) (g .high) (g .no-app) (size-here here) l last-known u d
 
         module _ {w₂ : List ℕ} {c : ℕ} (t : Puts 0xff (cond (s .«in_term») (x .term) w₁) w₁ w₂ (s .from + 1) (s .from + 1 + n) (s .shift) (s .cut) 0 a c) where
-          pub pair-ends : (c ≡ f .end + suc k + suc n) × (f .end ≤ c) × (a + 1 < 65536) × (c < 65536)
+          pair-ends : (c ≡ f .end + suc k + suc n) × (f .end ≤ c)
           pair-ends = pair-end here (has-room here) (g .high) (g .no-app) (size-here here) l last-known u t
 
           pair-kept : Keeps m (entryArrays m w₂ (f .len) (a + 1) (s .origin + 1) c) (f .len) (f .end) (s .bottom)

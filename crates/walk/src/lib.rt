@@ -4,11 +4,12 @@ ghost use mathlib.Core.Path.{_≡_};
 ghost use mathlib.Core.Bool.{true, false, cond};
 ghost use mathlib.Core.List.{List};
 ghost use Prim.Native.Nat.{ℕ, _+_, _-_, _*_, _≤_, _<_, max};
-ghost use lib.ListN.{length, getD};
+ghost use lib.ListN.{length, getD, set};
 ghost use Rattle.calculus.specs.Terms.{liftIndex};
 ghost use Rattle.code.specs.Limits.{longestTerm, longestState, mostAbstractors};
 ghost use Rattle.frames.specs.Stored.{recordOf};
 ghost use Rattle.compare.specs.Sides.{Buffers};
+ghost use Rattle.waiting.specs.Writing.{PutAsked, Puts};
 ghost use Rattle.walk.specs.State.{textOf, arraysOf, Stated};
 ghost use Rattle.walk.specs.Contracts.{within, answering, going, pairing, completedOf, pastOf, metOf, typedOf, startOf, innerOf, checkedOf, TestAs, DueAs, TauTurn, WaitReady, PutAside, WaitTurn, SizesKnown, DepthsKnown, AbstractorAt, Wagons, Known, Turns, InnerAt, Checks, Walkable, WholeAnswer, WalkAnswer};
 use code::numbers::ACCEPTED;
@@ -407,6 +408,41 @@ fn stretch(reach: &mut usize, e: usize)
     *reach = larger(*reach, e);
 }
 
+// U, which has n bytes and stands behind the first byte of B, is written to `to`, and noted.
+fn enter_domain(
+    t: &[u8],
+    depths: &[u8],
+    work: &mut Work,
+    domains: &mut Starts,
+    origins: &mut Starts,
+    len: usize,
+    to: usize,
+    s: WalkState,
+    n: usize,
+) -> usize
+    requires { ⌜ (len < mostAbstractors) × (to + 1 < 65536) × (s .origin + 1 < 65536) × (s .from < 65536) × (n < 65536) × PutAsked (now t) (now depths) (now work) (s .«in_term») (s .from + 1) (s .from + 1 + n) (s .origin + 1) to (s .shift) (s .cut) 0 ⌝ }
+    ensures { λ r. ⌜ Puts 0xff (cond (s .«in_term») (now (t .entry)) (now (work .entry))) (now (work .entry)) (now (work .exit)) (s .from + 1) (s .from + 1 + n) (s .shift) (s .cut) 0 to r × (now (domains .exit) ≡ set (now (domains .entry)) len (to + 1)) × (now (origins .exit) ≡ set (now (origins .entry)) len (s .origin + 1)) ⌝ }
+{
+    let from = s.from + 1;
+    let e = put(
+        t,
+        depths,
+        work,
+        0xff,
+        s.in_term,
+        from,
+        from + n,
+        s.origin + 1,
+        to,
+        s.shift,
+        s.cut,
+        0,
+    );
+    domains[len] = (to + 1) as u16;
+    origins[len] = (s.origin + 1) as u16;
+    e
+}
+
 // [U], whose U has n bytes, while nothing waits: (iv) and (x).
 fn enter_alone(
     t: &[u8],
@@ -423,24 +459,8 @@ fn enter_alone(
     requires { ⌜ (s .bottom ≡ s .top) × DepthsKnown (now t) (now depths) × ((file list starts : List ℕ) × AbstractorAt (textOf file (now t)) (arraysOf (now work) list (now domains) (now origins) (now reach)) (recordOf starts len end) s n) ⌝ }
     ensures { λ r. ⌜ ((file list starts a b : List ℕ) → AbstractorAt (textOf file (now (t .entry))) (arraysOf (now (work .entry)) list (now (domains .entry)) (now (origins .entry)) (now (reach .entry))) (recordOf starts len end) s n → Wagons (textOf file (now (t .entry))) (arraysOf (now (work .entry)) list (now (domains .entry)) (now (origins .entry)) (now (reach .entry))) (arraysOf (now (work .exit)) list (now (domains .exit)) (now (origins .exit)) (now (reach .exit))) (recordOf starts len end) s a b r) ⌝ }
 {
-    let from = s.from + 1;
-    let b = put(
-        t,
-        depths,
-        work,
-        0xff,
-        s.in_term,
-        from,
-        from + n,
-        s.origin + 1,
-        end,
-        s.shift,
-        s.cut,
-        0,
-    );
+    let b = enter_domain(t, depths, work, domains, origins, len, end, s, n);
     stretch(reach, b);
-    domains[len] = (end + 1) as u16;
-    origins[len] = (s.origin + 1) as u16;
     let z = past(
         s,
         n,
@@ -492,24 +512,8 @@ fn enter_copied(
         v.cut,
         len - v.depth,
     );
-    let from = s.from + 1;
-    let b = put(
-        t,
-        depths,
-        work,
-        0xff,
-        s.in_term,
-        from,
-        from + n,
-        s.origin + 1,
-        a,
-        s.shift,
-        s.cut,
-        0,
-    );
+    let b = enter_domain(t, depths, work, domains, origins, len, a, s, n);
     stretch(reach, b);
-    domains[len] = (a + 1) as u16;
-    origins[len] = (s.origin + 1) as u16;
     let z = past(
         s,
         n,
@@ -580,23 +584,7 @@ fn enter_waiting(
         v.cut,
         len - v.depth,
     );
-    let from = s.from + 1;
-    let e = put(
-        t,
-        depths,
-        work,
-        0xff,
-        s.in_term,
-        from,
-        from + n,
-        s.origin + 1,
-        a,
-        s.shift,
-        s.cut,
-        0,
-    );
-    domains[len] = (a + 1) as u16;
-    origins[len] = (s.origin + 1) as u16;
+    let e = enter_domain(t, depths, work, domains, origins, len, a, s, n);
     let z = past(
         s,
         n,

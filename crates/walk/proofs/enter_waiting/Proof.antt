@@ -1,6 +1,6 @@
 -- `walk::enter_waiting` meets its contract.
 -- Assumes nothing.
-use Rattle.walk.proofs.Entering.{abs-bounds, here, one-listed, pair-domain, pair-ends, waiting-last, waiting-slot, waiting-bounds, waiting-asked, waiting-wagons}
+use Rattle.walk.proofs.Entering.{abs-bounds, here, one-listed, pair-middle, pair-domain, waiting-last, waiting-slot, waiting-bounds, waiting-asked, waiting-wagons}
 use native.Mathlib.Omega.{arith}
 use borrow.Author.Needs.{needs}
 use Rattle.walk.proofs.enter_waiting.Statement.{statement}
@@ -10,6 +10,7 @@ use Rattle.walk.proofs.enter_waiting.Lts as lts
 use Rattle.waiting.proofs.put.Reads as put-reads
 use Rattle.waiting.proofs.slot_at.Reads as slot-at-reads
 use Rattle.waiting.proofs.wide16.Reads as wide16-reads
+use Rattle.walk.proofs.enter_domain.Reads as enter-domain-reads
 use Rattle.walk.proofs.is_lost.Reads as is-lost-reads
 use Rattle.walk.proofs.pair.Reads as pair-reads
 use Rattle.walk.proofs.past.Reads as past-reads
@@ -67,59 +68,26 @@ sub-put c = omega (arith, waiting-slot (c .before .before .before .before .befor
 put-requires : tie.Need-put-requires
 put-requires c κs = rw (c .before .before .start-of .ensures .0) (waiting-asked (c .before .before .before .before .before .before .before .before .before .before .before .before .before .before .before .before .pre .4 .2) (c .before .before .before .before .before .before .before .before .before .before .slot-at .ensures .0) (c .before .before .before .before .before .before .before .before .before .before .before .before .before .before .before .before .pre .1) (c .before .before .before .before .before .before .before .before .before .before .before .before .before .before .before .before .pre .2) (c .before .before .before .before .before .before .before .before .before .before .before .before .before .before .before .before .pre .0) (c .before .before .before .before .before .before .before .wide16 .ensures .0) {b = c .before .before .before .is-lost .result} (λ j. omega (arith, c .before .before .before .is-lost .ensures j, c .before .before .before .before .before .stretch .ensures)) (c .before .before .before .before .before .before .before .before .before .before .before .before .before .before .before .before .pre .3))
 
-add-from : tie.Need-add-from
-add-from c = omega (arith, abs-bounds (c .before .before .before .before .before .before .before .before .before .before .before .before .before .before .before .before .before .before .pre .4 .2))
-
-add-put-2 : tie.Need-add-put-2
-add-put-2 c = omega (arith, abs-bounds (c .before .before .before .before .before .before .before .before .before .before .before .before .before .before .before .before .before .before .before .pre .4 .2))
-
-add-put-3 : tie.Need-add-put-3
-add-put-3 c = omega (arith, abs-bounds (c .before .before .before .before .before .before .before .before .before .before .before .before .before .before .before .before .before .before .before .before .pre .4 .2))
-
-put-requires-2 : tie.Need-put-requires-2
-put-requires-2 c κs = pair-domain (c .before .before .before .before .before .before .before .before .before .before .before .before .before .before .before .before .before .before .before .before .pre .4 .2) (waiting-last (c .before .before .before .before .before .before .before .before .before .before .before .before .before .before .before .before .before .before .before .before .pre .4 .2) (c .before .before .before .before .before .before .before .before .before .before .before .before .before .before .slot-at .ensures .0) (c .before .before .before .before .before .before .before .before .before .before .before .before .before .before .before .before .before .before .before .before .pre .1) (c .before .before .before .before .before .before .before .before .before .before .before .before .before .before .before .before .before .before .before .before .pre .2) (c .before .before .before .before .before .before .before .is-lost .result) (λ j. omega (arith, c .before .before .before .before .before .before .before .is-lost .ensures j, c .before .before .before .before .before .before .before .before .before .stretch .ensures)) (here (c .before .before .before .before .before .before .before .before .before .before .before .before .before .before .before .before .before .before .before .before .pre .4 .2))) (c .before .before .before .before .before .before .before .before .before .before .before .before .before .before .before .before .before .before .before .before .pre .0) (c .before .before .before .before .before .before .before .before .before .before .before .wide16 .ensures .0) (rw (c .before .before .before .before .before .before .start-of .ensures .0) at (c .before .before .before .put .ensures)) (c .before .before .before .before .before .before .before .before .before .before .before .before .before .before .before .before .before .before .before .before .pre .3)
-
-add-domains : tie.Need-add-domains
-add-domains c = omega (arith, abs-bounds (c .before .before .before .before .before .before .before .before .before .before .before .before .before .before .before .before .before .before .before .before .before .pre .4 .2), pair-ends (c .before .before .before .before .before .before .before .before .before .before .before .before .before .before .before .before .before .before .before .before .before .pre .4 .2) (waiting-last (c .before .before .before .before .before .before .before .before .before .before .before .before .before .before .before .before .before .before .before .before .before .pre .4 .2) (c .before .before .before .before .before .before .before .before .before .before .before .before .before .before .before .slot-at .ensures .0) (c .before .before .before .before .before .before .before .before .before .before .before .before .before .before .before .before .before .before .before .before .before .pre .1) (c .before .before .before .before .before .before .before .before .before .before .before .before .before .before .before .before .before .before .before .before .before .pre .2) (c .before .before .before .before .before .before .before .before .is-lost .result) (λ j. omega (arith, c .before .before .before .before .before .before .before .before .is-lost .ensures j, c .before .before .before .before .before .before .before .before .before .before .stretch .ensures)) (here (c .before .before .before .before .before .before .before .before .before .before .before .before .before .before .before .before .before .before .before .before .before .pre .4 .2))) (c .before .before .before .before .before .before .before .before .before .before .before .before .before .before .before .before .before .before .before .before .before .pre .0) (c .before .before .before .before .before .before .before .before .before .before .before .before .wide16 .ensures .0) (rw (c .before .before .before .before .before .before .before .start-of .ensures .0) at (c .before .before .before .before .put .ensures)) (c .put2 .ensures))
-
-cast-domains : tie.Need-cast-domains
-cast-domains c = omega (arith, abs-bounds (c .before .before .before .before .before .before .before .before .before .before .before .before .before .before .before .before .before .before .before .before .before .pre .4 .2), pair-ends (c .before .before .before .before .before .before .before .before .before .before .before .before .before .before .before .before .before .before .before .before .before .pre .4 .2) (waiting-last (c .before .before .before .before .before .before .before .before .before .before .before .before .before .before .before .before .before .before .before .before .before .pre .4 .2) (c .before .before .before .before .before .before .before .before .before .before .before .before .before .before .before .slot-at .ensures .0) (c .before .before .before .before .before .before .before .before .before .before .before .before .before .before .before .before .before .before .before .before .before .pre .1) (c .before .before .before .before .before .before .before .before .before .before .before .before .before .before .before .before .before .before .before .before .before .pre .2) (c .before .before .before .before .before .before .before .before .is-lost .result) (λ j. omega (arith, c .before .before .before .before .before .before .before .before .is-lost .ensures j, c .before .before .before .before .before .before .before .before .before .before .stretch .ensures)) (here (c .before .before .before .before .before .before .before .before .before .before .before .before .before .before .before .before .before .before .before .before .before .pre .4 .2))) (c .before .before .before .before .before .before .before .before .before .before .before .before .before .before .before .before .before .before .before .before .before .pre .0) (c .before .before .before .before .before .before .before .before .before .before .before .before .wide16 .ensures .0) (rw (c .before .before .before .before .before .before .before .start-of .ensures .0) at (c .before .before .before .before .put .ensures)) (c .put2 .ensures))
-
-mul-domains : tie.Need-mul-domains
-mul-domains c = omega (arith, abs-bounds (c .before .before .before .before .before .before .before .before .before .before .before .before .before .before .before .before .before .before .before .before .before .pre .4 .2))
-
-element-write-domains : tie.Need-element-write-domains
-element-write-domains c = omega (arith, abs-bounds (c .before .before .before .before .before .before .before .before .before .before .before .before .before .before .before .before .before .before .before .before .before .pre .4 .2))
-
-add-origins : tie.Need-add-origins
-add-origins c = omega (arith, abs-bounds (c .before .before .before .before .before .before .before .before .before .before .before .before .before .before .before .before .before .before .before .before .before .before .pre .4 .2))
-
-cast-origins : tie.Need-cast-origins
-cast-origins c = omega (arith, abs-bounds (c .before .before .before .before .before .before .before .before .before .before .before .before .before .before .before .before .before .before .before .before .before .before .pre .4 .2))
-
-mul-origins : tie.Need-mul-origins
-mul-origins c = omega (arith, abs-bounds (c .before .before .before .before .before .before .before .before .before .before .before .before .before .before .before .before .before .before .before .before .before .before .pre .4 .2))
-
-element-write-origins : tie.Need-element-write-origins
-element-write-origins c = omega (arith, abs-bounds (c .before .before .before .before .before .before .before .before .before .before .before .before .before .before .before .before .before .before .before .before .before .before .pre .4 .2))
+enter-domain-requires : tie.Need-enter-domain-requires
+enter-domain-requires c κs = let b = abs-bounds (c .before .before .before .before .before .before .before .before .before .before .before .before .before .before .before .before .before .before .before .before .pre .4 .2) in let l = (waiting-last (c .before .before .before .before .before .before .before .before .before .before .before .before .before .before .before .before .before .before .before .before .pre .4 .2) (c .before .before .before .before .before .before .before .before .before .before .before .before .before .before .slot-at .ensures .0) (c .before .before .before .before .before .before .before .before .before .before .before .before .before .before .before .before .before .before .before .before .pre .1) (c .before .before .before .before .before .before .before .before .before .before .before .before .before .before .before .before .before .before .before .before .pre .2) (c .before .before .before .before .before .before .before .is-lost .result) (λ j. omega (arith, c .before .before .before .before .before .before .before .is-lost .ensures j, c .before .before .before .before .before .before .before .before .before .stretch .ensures)) (here (c .before .before .before .before .before .before .before .before .before .before .before .before .before .before .before .before .before .before .before .before .pre .4 .2))) in let u = (rw (c .before .before .before .before .before .before .start-of .ensures .0) at (c .before .before .before .put .ensures)) in (b .4, pair-middle (c .before .before .before .before .before .before .before .before .before .before .before .before .before .before .before .before .before .before .before .before .pre .4 .2) l (c .before .before .before .before .before .before .before .before .before .before .before .before .before .before .before .before .before .before .before .before .pre .0) (c .before .before .before .before .before .before .before .before .before .before .before .wide16 .ensures .0) u, b .3, b .1, b .0, pair-domain (c .before .before .before .before .before .before .before .before .before .before .before .before .before .before .before .before .before .before .before .before .pre .4 .2) l (c .before .before .before .before .before .before .before .before .before .before .before .before .before .before .before .before .before .before .before .before .pre .0) (c .before .before .before .before .before .before .before .before .before .before .before .wide16 .ensures .0) u (c .before .before .before .before .before .before .before .before .before .before .before .before .before .before .before .before .before .before .before .before .pre .3))
 
 add-past : tie.Need-add-past
-add-past c = omega (arith, abs-bounds (c .before .before .before .before .before .before .before .before .before .before .before .before .before .before .before .before .before .before .before .before .before .before .before .pre .4 .2))
+add-past c = omega (arith, abs-bounds (c .before .before .before .before .before .before .before .before .before .before .before .before .before .before .before .before .before .before .before .before .before .before .pre .4 .2))
 
 add-past-2 : tie.Need-add-past-2
-add-past-2 c = omega (arith, c .before .before .before .before .before .before .before .before .before .before .before .before .before .before .wide16 .ensures .1)
+add-past-2 c = omega (arith, c .before .before .before .before .before .before .before .before .before .before .before .before .before .wide16 .ensures .1)
 
 sub-past : tie.Need-sub-past
-sub-past c = omega (arith, waiting-bounds (c .before .before .before .before .before .before .before .before .before .before .before .before .before .before .before .before .before .before .before .before .before .before .before .before .pre .4 .2) (c .before .before .before .before .before .before .before .before .before .before .before .before .before .before .before .before .before .before .slot-at .ensures .0) (c .before .before .before .before .before .before .before .before .before .before .before .before .before .before .before .before .before .before .before .before .before .before .before .before .pre .1) (c .before .before .before .before .before .before .before .before .before .before .before .before .before .before .before .before .before .before .before .before .before .before .before .before .pre .2) (c .before .before .before .before .before .before .before .before .before .before .before .before .before .before .before .before .before .before .before .before .before .before .before .before .pre .0) (c .before .before .before .before .before .before .before .before .before .before .before .before .before .before .before .wide16 .ensures .0))
+sub-past c = omega (arith, waiting-bounds (c .before .before .before .before .before .before .before .before .before .before .before .before .before .before .before .before .before .before .before .before .before .before .before .pre .4 .2) (c .before .before .before .before .before .before .before .before .before .before .before .before .before .before .before .before .before .slot-at .ensures .0) (c .before .before .before .before .before .before .before .before .before .before .before .before .before .before .before .before .before .before .before .before .before .before .before .pre .1) (c .before .before .before .before .before .before .before .before .before .before .before .before .before .before .before .before .before .before .before .before .before .before .before .pre .2) (c .before .before .before .before .before .before .before .before .before .before .before .before .before .before .before .before .before .before .before .before .before .before .before .pre .0) (c .before .before .before .before .before .before .before .before .before .before .before .before .before .before .wide16 .ensures .0))
 
 past-requires : tie.Need-past-requires
-past-requires c κs = let b = abs-bounds (c .before .before .before .before .before .before .before .before .before .before .before .before .before .before .before .before .before .before .before .before .before .before .before .before .pre .4 .2) in (b .0, b .1, b .2)
+past-requires c κs = let b = abs-bounds (c .before .before .before .before .before .before .before .before .before .before .before .before .before .before .before .before .before .before .before .before .before .before .before .pre .4 .2) in (b .0, b .1, b .2)
 
 pair-requires : tie.Need-pair-requires
 pair-requires c κs = search needs
 
 returns : tie.Need-returns
-returns c = λ file starts a b g. rw (c .pair .ensures, c .before .past .ensures, c .before .before .before .before .before .before .before .before .before .before .before .before .before .before .before .stretch .ensures) (waiting-wagons g (c .before .before .before .before .before .before .before .before .before .before .before .before .before .before .before .before .before .before .before .before .slot-at .ensures .0) (c .before .before .before .before .before .before .before .before .before .before .before .before .before .before .before .before .before .before .before .before .before .before .before .before .before .before .pre .1) (c .before .before .before .before .before .before .before .before .before .before .before .before .before .before .before .before .before .before .before .before .before .before .before .before .before .before .pre .2) (c .before .before .before .before .before .before .before .before .before .before .before .before .before .before .before .before .before .before .before .before .before .before .before .before .before .before .pre .0) (c .before .before .before .before .before .before .before .before .before .before .before .before .before .before .before .before .before .wide16 .ensures .0) {b = c .before .before .before .before .before .before .before .before .before .before .before .before .before .is-lost .result} (λ j. omega (arith, c .before .before .before .before .before .before .before .before .before .before .before .before .before .is-lost .ensures j, c .before .before .before .before .before .before .before .before .before .before .before .before .before .before .before .stretch .ensures)) (rw (c .before .before .before .before .before .before .before .before .before .before .before .before .start-of .ensures .0) at (c .before .before .before .before .before .before .before .before .before .put .ensures)) (c .before .before .before .before .before .put2 .ensures) a b)
+returns c = λ file starts a b g. rw (c .pair .ensures, c .before .past .ensures, c .before .before .before .before .before .before .before .before .before .before .before .before .before .before .stretch .ensures, c .before .before .before .before .enter-domain .ensures .1, c .before .before .before .before .enter-domain .ensures .2) (waiting-wagons g (c .before .before .before .before .before .before .before .before .before .before .before .before .before .before .before .before .before .before .before .slot-at .ensures .0) (c .before .before .before .before .before .before .before .before .before .before .before .before .before .before .before .before .before .before .before .before .before .before .before .before .before .pre .1) (c .before .before .before .before .before .before .before .before .before .before .before .before .before .before .before .before .before .before .before .before .before .before .before .before .before .pre .2) (c .before .before .before .before .before .before .before .before .before .before .before .before .before .before .before .before .before .before .before .before .before .before .before .before .before .pre .0) (c .before .before .before .before .before .before .before .before .before .before .before .before .before .before .before .before .wide16 .ensures .0) {b = c .before .before .before .before .before .before .before .before .before .before .before .before .is-lost .result} (λ j. omega (arith, c .before .before .before .before .before .before .before .before .before .before .before .before .is-lost .ensures j, c .before .before .before .before .before .before .before .before .before .before .before .before .before .before .stretch .ensures)) (rw (c .before .before .before .before .before .before .before .before .before .before .before .start-of .ensures .0) at (c .before .before .before .before .before .before .before .before .put .ensures)) (c .before .before .before .before .enter-domain .ensures .0) a b)
 
 pub enter-waiting-spec : {M : Type 1} → statement M
 enter-waiting-spec =
@@ -142,18 +110,7 @@ enter-waiting-spec =
     add-put
     sub-put
     put-requires
-    add-from
-    add-put-2
-    add-put-3
-    put-requires-2
-    add-domains
-    cast-domains
-    mul-domains
-    element-write-domains
-    add-origins
-    cast-origins
-    mul-origins
-    element-write-origins
+    enter-domain-requires
     add-past
     add-past-2
     sub-past
