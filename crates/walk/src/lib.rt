@@ -257,23 +257,9 @@ fn seen_index(b: u8, n: usize, c: usize) -> usize
 fn meet(s: WalkState) -> Turned
     ensures { λ r. ⌜ r ≡ going 1 (metOf s) false 0 ⌝ }
 {
-    let z = WalkState {
-        own: false,
-        checked: false,
-        in_term: s.in_term,
-        place: s.place,
-        from: s.from,
-        origin: s.origin,
-        shift: s.shift,
-        cut: s.cut,
-        bottom: s.bottom,
-        middle: s.middle,
-        top: s.top,
-        size: s.size,
-        scope: s.scope,
-        next: s.next,
-        comparisons: s.comparisons,
-    };
+    let mut z = s;
+    z.own = false;
+    z.checked = false;
     onward(STATE, z, false, 0)
 }
 
@@ -283,23 +269,14 @@ fn replace(domains: &Starts, origins: &Starts, len: usize, s: WalkState, k: usiz
     ensures { λ r. ⌜ r ≡ going 1 (typedOf s k (getD (now (domains .entry)) (len - k) 0) (getD (now (origins .entry)) (len - k) 0)) false 0 ⌝ }
 {
     let i = len - k;
-    let z = WalkState {
-        own: false,
-        checked: false,
-        in_term: false,
-        place: s.place,
-        from: wide16(domains[i]),
-        origin: wide16(origins[i]),
-        shift: k,
-        cut: 0,
-        bottom: s.bottom,
-        middle: s.middle,
-        top: s.top,
-        size: s.size,
-        scope: s.scope,
-        next: s.next,
-        comparisons: s.comparisons,
-    };
+    let mut z = s;
+    z.own = false;
+    z.checked = false;
+    z.in_term = false;
+    z.from = wide16(domains[i]);
+    z.origin = wide16(origins[i]);
+    z.shift = k;
+    z.cut = 0;
     onward(STATE, z, false, 0)
 }
 
@@ -312,34 +289,26 @@ fn past(
     top: usize,
     size: usize,
     scope: usize,
-    next: usize,
-    comparisons: usize,
 ) -> WalkState
     requires { ⌜ (n < 65536) × (s .from < 65536) × (s .origin < 65536) ⌝ }
-    ensures { λ r. ⌜ r ≡ pastOf s n cut middle top size scope next comparisons ⌝ }
+    ensures { λ r. ⌜ r ≡ pastOf s n cut middle top size scope (s .next) (s .comparisons) ⌝ }
 {
     let from = s.from + 1 + n;
     let mut place = s.place;
     if s.own {
         place = from;
     }
-    WalkState {
-        own: s.own,
-        checked: false,
-        in_term: s.in_term,
-        place,
-        from,
-        origin: s.origin + 1 + n,
-        shift: s.shift,
-        cut,
-        bottom: s.bottom,
-        middle,
-        top,
-        size,
-        scope,
-        next,
-        comparisons,
-    }
+    let mut z = s;
+    z.checked = false;
+    z.place = place;
+    z.from = from;
+    z.origin = s.origin + 1 + n;
+    z.cut = cut;
+    z.middle = middle;
+    z.top = top;
+    z.size = size;
+    z.scope = scope;
+    z
 }
 
 // Where the bytes of ⟨K⟩ stand in the work array while it waits: those of copied text where they stand, and those of the term's own text,
@@ -395,8 +364,6 @@ fn wait(
         top + 1,
         s.size + (1 + n),
         larger(s.scope, y),
-        s.next,
-        s.comparisons,
     );
     onward(STATE, z, false, 0)
 }
@@ -461,17 +428,7 @@ fn enter_alone(
 {
     let b = enter_domain(t, depths, work, domains, origins, len, end, s, n);
     stretch(reach, b);
-    let z = past(
-        s,
-        n,
-        s.cut + 1,
-        s.middle,
-        s.top,
-        s.size,
-        s.scope,
-        s.next,
-        s.comparisons,
-    );
+    let z = past(s, n, s.cut + 1, s.middle, s.top, s.size, s.scope);
     onward(STATE, z, true, b)
 }
 
@@ -514,17 +471,7 @@ fn enter_copied(
     );
     let b = enter_domain(t, depths, work, domains, origins, len, a, s, n);
     stretch(reach, b);
-    let z = past(
-        s,
-        n,
-        s.cut + 1,
-        s.middle,
-        top,
-        s.size - (1 + k),
-        v.scope,
-        s.next,
-        s.comparisons,
-    );
+    let z = past(s, n, s.cut + 1, s.middle, top, s.size - (1 + k), v.scope);
     onward(STATE, z, true, b)
 }
 
@@ -585,17 +532,7 @@ fn enter_waiting(
         len - v.depth,
     );
     let e = enter_domain(t, depths, work, domains, origins, len, a, s, n);
-    let z = past(
-        s,
-        n,
-        s.cut + 1,
-        top,
-        top,
-        s.size - (1 + k),
-        v.scope,
-        s.next,
-        s.comparisons,
-    );
+    let z = past(s, n, s.cut + 1, top, top, s.size - (1 + k), v.scope);
     pair(z, v.place, a, e)
 }
 
@@ -603,23 +540,11 @@ fn enter_waiting(
 fn checked(s: WalkState, next: usize, comparisons: usize) -> WalkState
     ensures { λ r. ⌜ r ≡ checkedOf s next comparisons ⌝ }
 {
-    WalkState {
-        own: s.own,
-        checked: true,
-        in_term: s.in_term,
-        place: s.place,
-        from: s.from,
-        origin: s.origin,
-        shift: s.shift,
-        cut: s.cut,
-        bottom: s.bottom,
-        middle: s.middle,
-        top: s.top,
-        size: s.size,
-        scope: s.scope,
-        next,
-        comparisons,
-    }
+    let mut z = s;
+    z.checked = true;
+    z.next = next;
+    z.comparisons = comparisons;
+    z
 }
 
 // A comparison is completed, and the groups after it stand at `next`.
@@ -627,23 +552,11 @@ fn completed(s: WalkState, next: usize) -> WalkState
     requires { ⌜ s .comparisons < 65536 ⌝ }
     ensures { λ r. ⌜ r ≡ completedOf s next ⌝ }
 {
-    WalkState {
-        own: s.own,
-        checked: false,
-        in_term: s.in_term,
-        place: s.place,
-        from: s.from,
-        origin: s.origin,
-        shift: s.shift,
-        cut: s.cut,
-        bottom: s.bottom,
-        middle: s.middle,
-        top: s.top,
-        size: s.size,
-        scope: s.scope,
-        next,
-        comparisons: s.comparisons + 1,
-    }
+    let mut z = s;
+    z.checked = false;
+    z.next = next;
+    z.comparisons = s.comparisons + 1;
+    z
 }
 
 // One turn: the state is tested for 11, and replaced by its rule.
