@@ -107,6 +107,7 @@ pub fn named() -> Vec<Named> {
     files(&mut table);
     terms(&mut table);
     scopes(&mut table);
+    overwritten(&mut table);
     states(&mut table);
     bodies(&mut table);
     places(&mut table);
@@ -261,6 +262,21 @@ fn terms(t: &mut Table) {
     t.plain("254 abstractors", &joined(&[&declarations(254), &[1]]), 0, (6, 506, 0, 0));
     t.plain("the farthest index", &joined(&[&declarations(252), &[0xfc]]), 0, (0, 0, 0, 2));
     t.plain("an index too far", &joined(&[&declarations(252), &[0xfd]]), 0, (5, 504, 0, 0));
+}
+
+/// The K of W stand at the end of the work array. The check of what stands inside a later applicator types a variable, and writes a frame
+/// up to them and over them.
+fn overwritten(t: &mut Table) {
+    // [y:τ][x:T] ⟨K⟩ ⟨x⟩ [T] [U] τ. T is [[..[τ]1..]1]1, so that the check of x copies 82 terms into a frame of 6,974 bytes; K is three
+    // declarations of m abstractors, and y; U is its type. ⟨K⟩ has 8 + 2 * (sum of all m) bytes, and those end with the array.
+    let deep = (0..82).fold(vec![0], |inner, _| joined(&[&[0xff], &inner, &[1]]));
+    let taken = |sizes: [usize; 3]| {
+        let parts = sizes.map(|m| joined(&[&[0xff], &declarations(m), &[0]])).concat();
+        joined(&[&[0xff, 0, 0xff], &deep, &[0xfe], &parts, &[5, 0xfe, 1, 0xff], &deep, &[0xff], &parts, &[0, 0]])
+    };
+    t.plain("a frame up to a waiting K", &taken([202, 202, 201]), 2, (0, 0, 2, 1));
+    t.plain("a frame over the first bytes of a waiting K", &taken([202, 202, 202]), 2, (0, 0, 2, 1));
+    t.plain("a frame over much of a waiting K", &taken([247, 247, 247]), 2, (0, 0, 2, 1));
 }
 
 /// 253 and 254 abstractors in scope of something that waits, is copied or is compared.
