@@ -55,10 +55,10 @@ module _ {W : List ℕ} {f : FrameRecord} {s : List ℕ} {n p : ℕ} {R : Frame}
   pub way-there : (u : Term) × Way t p u
   way-there = place-way t p (omega (arith, y .lies .place))
 
-  pub variable-way : {k : ℕ} → k ≡ symbolOf (getD s p 0) → 1 ≤ k → k < applicator → Way t p (var k)
+  variable-way : {k : ℕ} → k ≡ symbolOf (getD s p 0) → 1 ≤ k → k < applicator → Way t p (var k)
   variable-way {k} e a b = let r = way-there in subst (Way t p) (variable-is (r .0) (e ∙ at-way y (r .1) .symbol) a b) (r .1)
 
-  pub not-variable : {k : ℕ} → k ≡ symbolOf (getD s p 0) → (1 ≤ k → k < applicator → ⊥) → step R (record { kind = 1; place = p }) t ≡ refused wrong-symbol
+  not-variable : {k : ℕ} → k ≡ symbolOf (getD s p 0) → (1 ≤ k → k < applicator → ⊥) → step R (record { kind = 1; place = p }) t ≡ refused wrong-symbol
   unfolding stepBy stepOf reachOf kindIn mapOutcome stepHere first
   not-variable {k} e c = let r = way-there in step-along local R [] (r .1) ∙ ap (mapOutcome (put (r .1))) (go (r .0) (r .1) (at-way y (r .1) .there-now .lies .coded) (e ∙ at-way y (r .1) .symbol))
     where

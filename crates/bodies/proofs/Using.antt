@@ -40,10 +40,6 @@ module _ {w : List ℕ} {f : FrameRecord} {s : List ℕ} {R : Frame} where
   pub held-type : {t : Term} {m : ℕ} → TypedAs w f s R t (Length m) → (u : Term) × (type R t ≡ some u) × Reached w f s R m u
   held-type (typed {u} e x) = (u, e, held-form x)
 
-  pub refused-step : {z : Step} {t : Term} {y : ℕ} → SteppedAs w f s R z t (Refused y) → (x : Reason) × (step R z t ≡ refused x)
-  refused-step (step-refused {x} e q) = (x, e)
-  refused-step (step-reached e x) = no-form x
-
   pub outgrown-step : {z : Step} {t : Term} → SteppedAs w f s R z t Outgrown → (u : Term) × (step R z t ≡ reached u) × (bodyFits R u ≡ false)
   outgrown-step (step-reached {u} e x) = (u, e, outgrown-form x)
 

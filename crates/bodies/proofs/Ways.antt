@@ -92,7 +92,7 @@ step-along κ R M (past-domain {U} {B} {u} {p} w) =
     (map-map (abs U) (put w) (stepHere couples κ (frameAt (R ▹ entryOf M U) (unmatched couples M) w) u))
 
 -- ---- Depths and scopes.
-pub frame-depth : {t u : Term} {p : ℕ} (d : ℕ) (R : Frame) (M : List Term) (w : Way t p u) → depth (frameAt R M w) + d ≡ depth R + depthAt d w
+frame-depth : {t u : Term} {p : ℕ} (d : ℕ) (R : Frame) (M : List Term) (w : Way t p u) → depth (frameAt R M w) + d ≡ depth R + depthAt d w
 unfolding depthAt frameAt depth
 frame-depth d R M here = refl
 frame-depth d R M (in-argument h w) = frame-depth d R [] w

@@ -67,7 +67,7 @@ module _ {file w : List ℕ} {at : ℕ} {f : FrameRecord} {m e : ℕ} (x : Compa
         record { stored = s; closed-frame = same-frame s; array = l .same-length ∙ a; lies = o .1; closed = rw (stored-depth s) c; shallow = fits-limits R t (o .0) .1 }
 
     -- K is within the limits.
-    pub applied-held : {r : Bool} {K : Term} → Loads w b b′ (f .len) (f .end + 1) m r → Stands w (suc (f .end)) m K → Held w f b′ (m - (f .end + 1)) R K
+    applied-held : {r : Bool} {K : Term} → Loads w b b′ (f .len) (f .end + 1) m r → Stands w (suc (f .end)) m K → Held w f b′ (m - (f .end + 1)) R K
     applied-held {r} {K} l h = go r l
       where
         same : x .applied ≡ K
@@ -80,7 +80,7 @@ module _ {file w : List ℕ} {at : ℕ} {f : FrameRecord} {m e : ℕ} (x : Compa
         go true l = held l (next-place h) (subst (Closed (f .len)) same (x .applied-closed))
         go false l = no-answer fits (l .all R K (stored-depth s) (next-place h))
 
-    pub domain-held : {U : Term} → Loads w b b′ (f .len) (m + 1) e true → Stands w (suc m) e U → Held w f b′ (e - (m + 1)) R U
+    domain-held : {U : Term} → Loads w b b′ (f .len) (m + 1) e true → Stands w (suc m) e U → Held w f b′ (e - (m + 1)) R U
     domain-held l h = held l (next-place h) (subst (Closed (f .len)) (stands-unique (x .domain-stands) h .0) (x .domain-closed))
 
   pub some-applied : {b b′ : List ℕ} {r : Bool} → length b ≡ longestTerm → Loads w b b′ (f .len) (f .end + 1) m r → SomeHeld w f b′ (m - (f .end + 1))

@@ -55,7 +55,7 @@ symbol-byte x d h = ap (λ n. (x + n) % 256) fours ∙ add-mul-mod-self-right x 
     fours : (d + h * 1024) * 1024 ≡ (d + h * 1024) * 4 * 256
     fours = omega arith
 
-pub letters-bytes : {t : Term} (d h : ℕ) → Coded t → map byteOf (letters d h t) ≡ encode t
+letters-bytes : {t : Term} (d h : ℕ) → Coded t → map byteOf (letters d h t) ≡ encode t
 unfolding letters encode
 letters-bytes d h coded-tau = ap (_∷ []) (symbol-byte 0 d h)
 letters-bytes d h (coded-var {k} p q) = ap (_∷ []) (symbol-byte k d h ∙ mod-eq-of-lt (omega arith))
@@ -69,13 +69,13 @@ first (var k) = k
 first (app K B) = 1022
 first (abs U B) = 1023
 
-unfoldable pub others : ℕ → ℕ → Term → List ℕ
+unfoldable others : ℕ → ℕ → Term → List ℕ
 others d h tau = []
 others d h (var k) = []
 others d h (app K B) = letters d (suc h) K ++ letters d h B
 others d h (abs U B) = letters d (suc h) U ++ letters (suc d) h B
 
-pub letters-first : (d h : ℕ) (t : Term) → letters d h t ≡ letter (first t) d h ∷ others d h t
+letters-first : (d h : ℕ) (t : Term) → letters d h t ≡ letter (first t) d h ∷ others d h t
 unfolding letters first others
 letters-first d h tau = refl
 letters-first d h (var k) = refl

@@ -46,7 +46,7 @@ module _ (k d h : ℕ) where
   written [] = []
   written (item {t} e f ∷ W) = letters (d + e) (h + length W) (lift k e t) ++ written W
 
-  pub written-next : {t : Term} (e : ℕ) (f : Coded t) (W : List Item)
+  written-next : {t : Term} (e : ℕ) (f : Coded t) (W : List Item)
       → written (item e f ∷ W) ≡ letter (liftedByte k e (byte t)) (d + e) (h + length W) ∷ written (next e f W)
   unfolding written next byte lift letters liftedByte
   written-next e coded-tau W = rw (index-low k e 0 (omega arith))

@@ -13,13 +13,13 @@ use Rattle.code.proofs.Parts.{Head, head-app, head-abs, head, stands-end}
 use Rattle.texts.specs.Texts.{Sized, Alike, alike-tau, alike-var, alike-app, alike-abs, Origin}
 
 -- ---- Terms that differ in their indices at most.
-pub alike-self : (X : Term) → Alike X X
+alike-self : (X : Term) → Alike X X
 alike-self tau = alike-tau
 alike-self (var k) = alike-var
 alike-self (app K B) = alike-app (alike-self K) (alike-self B)
 alike-self (abs U B) = alike-abs (alike-self U) (alike-self B)
 
-pub alike-lift : {Y X : Term} (n c : ℕ) → Alike Y X → Alike Y (lift n c X)
+alike-lift : {Y X : Term} (n c : ℕ) → Alike Y X → Alike Y (lift n c X)
 unfolding lift
 alike-lift n c alike-tau = alike-tau
 alike-lift n c alike-var = alike-var
@@ -33,7 +33,7 @@ alike-size alike-var = refl
 alike-size (alike-app f g) = ap suc (ap₂ _+_ (alike-size f) (alike-size g))
 alike-size (alike-abs f g) = ap suc (ap₂ _+_ (alike-size f) (alike-size g))
 
-pub alike-scope : {Y X : Term} → Alike Y X → scope Y ≡ scope X
+alike-scope : {Y X : Term} → Alike Y X → scope Y ≡ scope X
 unfolding scope
 alike-scope alike-tau = refl
 alike-scope alike-var = refl

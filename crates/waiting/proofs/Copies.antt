@@ -21,10 +21,6 @@ use Rattle.texts.specs.Texts.{depthIn, Depths, Origin}
 use Rattle.texts.proofs.Depths.{lifted-byte}
 use Rattle.waiting.specs.Writing.{Raised, Copied, Placed}
 
--- What stands in s is a copy where one term that stands there is.
-pub placed : {t depths s : List ℕ} {p e o : ℕ} {X : Term} → Depths t depths → length t ≤ length depths → Stands s p e X → Origin t o X → Placed t depths s p e o
-placed d l h g = record { deep = d; long = l; origin = λ Y k. rw (stands-unique k h .0) g }
-
 -- ---- One byte.
 -- Past the cut-off is what is more than it and the abstractors in scope.
 module _ (n low d b : ℕ) {x y : ℕ} (f : (b < 254 → x ≡ b) × (254 ≤ b → x ≡ 0)) (e : y ≡ x - low) where

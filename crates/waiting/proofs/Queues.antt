@@ -91,11 +91,8 @@ module _ {t s : List ℕ} {d limit : ℕ} {v : Slot} {x : Waiting} (h : Waits t 
   pub raw-size : size (x .term) ≡ size (h .raw)
   raw-size = rw (h .seen) (size-lift (d - v .depth) 0 (lift (v .shift) (v .cut) (h .raw)) ∙ size-lift (v .shift) (v .cut) (h .raw))
 
-  pub raw-scope : scope (x .term) ≡ scope (h .raw)
-  raw-scope = rw (h .seen) (scope-lift (d - v .depth) 0 (lift (v .shift) (v .cut) (h .raw)) ∙ scope-lift (v .shift) (v .cut) (h .raw))
-
   -- as it stands now
-  pub now-closed : Closed d (x .term)
+  now-closed : Closed d (x .term)
   now-closed = let e : v .depth + (d - v .depth) ≡ d = omega (arith, h .deep) in rw (h .seen) (rw e at (lift-closed (d - v .depth) 0 (h .part .closed)))
 
   pub now-part : d + scope (x .term) ≤ mostAbstractors → Part d (x .term)
@@ -156,7 +153,7 @@ queue-agree {limit = limit} {limit′ = limit′} a l h (queue-one b c x m r) = 
 }) m (queue-agree a l h r)
 
 -- another array, of which the slots below the top are the same
-pub slot-same : {q q′ : List ℕ} {k : ℕ} (j : ℕ) → Agree q q′ 0 (6 * k) → j < k → slotOf q j ≡ slotOf q′ j
+slot-same : {q q′ : List ℕ} {k : ℕ} (j : ℕ) → Agree q q′ 0 (6 * k) → j < k → slotOf q j ≡ slotOf q′ j
 slot-same {q} {q′} {k} j a h = rw (
   a .same (6 * j) (omega arith) (omega arith),
   a .same (6 * j + 1) (omega arith) (omega arith),

@@ -71,19 +71,3 @@ text-abs {s} {p} {e} {T} h q n = go (head h)
 -- the first byte is inside
 pub text-in : {s : List ℕ} {p e : ℕ} {T : Term} → Stands s p e T → p < length s
 text-in h = omega (arith, stands-start h, stands-end h)
-
--- a term stands after an applicator or an abstractor
-pub record Inner (s : List ℕ) (p e : ℕ) : Type 0 where
-  pub term : Term
-  pub mid : ℕ
-  pub stands : Stands s (p + 1) mid term
-  pub before : mid < e
-
-pub text-inner : {s : List ℕ} {p e : ℕ} {T : Term} → Stands s p e T → 0xfe ≤ getD s p 0 → Inner s p e
-text-inner {s} {p} {e} {T} h q = go (head h)
-  where
-    go : {T : Term} → Head s p e T → Inner s p e
-    go (head-tau b z) = absurd (omega arith)
-    go (head-var b x y z) = absurd (omega arith)
-    go (head-app {m} {K} b k l) = record { term = K; mid = m; stands = rw add-one k; before = stands-start l }
-    go (head-abs {m} {U} b k l) = record { term = U; mid = m; stands = rw add-one k; before = stands-start l }

@@ -105,10 +105,10 @@ module _ {x : Text} {m : Arrays} {f : FrameRecord} {s : WalkState} {R : Frame} {
   pub taken : Term
   taken = lift (s .shift) (s .cut) (two-abs .one)
 
-  pub rest : Term
+  rest : Term
   rest = lift (s .shift) (suc (s .cut)) (two-abs .two)
 
-  pub is-abs : B ≡ abs taken rest
+  is-abs : B ≡ abs taken rest
   unfolding lift taken rest
   is-abs = z .seen ∙ ap (lift (s .shift) (s .cut)) (two-abs .is)
 
@@ -314,7 +314,7 @@ module _ {x : Text} {m : Arrays} {f : FrameRecord} {s : WalkState} {R : Frame} {
         applied-written : WrittenTerm 0xfe (m .work) w₁ (f .end) a (w .term)
         applied-written = waits-written (l .slot) (rw last-end at u)
 
-        pub applied-past : (a ≡ f .end + suc (size (w .term))) × (f .end ≤ a) × (a + suc (size (two-abs .one)) ≤ longestState)
+        applied-past : (a ≡ f .end + suc (size (w .term))) × (f .end ≤ a) × (a + suc (size (two-abs .one)) ≤ longestState)
         applied-past = let h = applied-written .stands .place in (omega arith, omega arith, omega (arith, l .fits))
 
         pub domain-asked : {depths : List ℕ} → DepthsKnown (x .term) depths → PutAsked (x .term) depths w₁ (s .«in_term») (s .from + 1) (s .from + 1 + n) (s .origin + 1) a (s .shift) (s .cut) 0

@@ -13,18 +13,18 @@ use Rattle.code.specs.Limits.{longestState}
 use Rattle.code.specs.Code.{decode}
 
 -- The degree of the term that starts at each symbol, in the order of their places.
-pub termDegrees : List ℕ → Term → List ℕ
+termDegrees : List ℕ → Term → List ℕ
 termDegrees D tau = 1 ∷ []
 termDegrees D (var k) = suc (nth D k) ∷ []
 termDegrees D (app K B) = degreeIn D (app K B) ∷ (termDegrees D K ++ termDegrees D B)
 termDegrees D (abs U B) = degreeIn D (abs U B) ∷ (termDegrees D U ++ termDegrees (degreeIn D U ∷ D) B)
 
-pub degreesIn : Option Term → List ℕ
+degreesIn : Option Term → List ℕ
 degreesIn none = []
 degreesIn (some t) = termDegrees [] t
 
 -- The largest of those from place i on.
-pub largestFrom : List ℕ → ℕ → ℕ
+largestFrom : List ℕ → ℕ → ℕ
 largestFrom [] i = 0
 largestFrom (d ∷ ds) zero = max d (largestFrom ds zero)
 largestFrom (d ∷ ds) (suc i) = largestFrom ds i

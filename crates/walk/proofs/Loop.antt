@@ -413,7 +413,7 @@ module _ {x : Text} {m m′ : Arrays} {f : FrameRecord} {s : WalkState} {a b : L
       go (comes-now i j) = absurd (j h)
       go (comes-compared i j k l) = k
 
-  pub settles-compared : Stated x m f s → {c : Compared} {l u : List ℕ} → Compares (x .file) (m′ .work) (s .next) f (r .out .first) (r .end) c l u → Settles x m m′ f s l u (settledOf s r c)
+  settles-compared : Stated x m f s → {c : Compared} {l u : List ℕ} → Compares (x .file) (m′ .work) (s .next) f (r .out .first) (r .end) c l u → Settles x m m′ f s l u (settledOf s r c)
   settles-compared g {c} {l} {u} q = record {
     keeps = t .keeps;
     onward = on (eqb (c .number) 0) (entered (t .all (g .frame) (g .ww) (g .qq) (g .body) (g .progress) (g .at))) (t .onward);

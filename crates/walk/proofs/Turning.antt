@@ -55,7 +55,7 @@ comes-at : {x : Text} {m : Arrays} {f : FrameRecord} {s : WalkState} {a b : List
 comes-at e h = rw e h
 
 -- the same state a turn later
-pub later : {x : Text} {m : Arrays} {f : FrameRecord} {s : WalkState} {R : Frame} {W Q : List Waiting} {B : Term} {p : Progress} → StateAt x m f s R W Q B p → StateAt x m f s R W Q B (turned 1 p)
+later : {x : Text} {m : Arrays} {f : FrameRecord} {s : WalkState} {R : Frame} {W Q : List Waiting} {B : Term} {p : Progress} → StateAt x m f s R W Q B p → StateAt x m f s R W Q B (turned 1 p)
 later z = record {
   held = z .held;
   text = z .text;
@@ -78,7 +78,7 @@ abbrev pub Fitted : Text → Arrays → FrameRecord → WalkState → Type 0
 Fitted x m f s = (R : Frame) (W Q : List Waiting) (B : Term) (p : Progress) → StateAt x m f s R W Q B p → stateFits (stateOf (s .own) R W Q B) ≡ true
 
 -- what was checked inside was within the limits
-pub fitted-checked : {x : Text} {m : Arrays} {f : FrameRecord} {s : WalkState} → s .checked ≡ true → Fitted x m f s
+fitted-checked : {x : Text} {m : Arrays} {f : FrameRecord} {s : WalkState} → s .checked ≡ true → Fitted x m f s
 fitted-checked c R W Q B p z = z .inner c .fitted
 
 module _ {x : Text} {m : Arrays} {f : FrameRecord} {s : WalkState} {sizes scopes : List ℕ} (k : Known (x .term) sizes scopes) where
@@ -92,10 +92,10 @@ module _ {x : Text} {m : Arrays} {f : FrameRecord} {s : WalkState} {sizes scopes
         numbers : {n n′ y y′ : ℕ} → n ≡ n′ → y ≡ y′ → within (f .end + (s .size + n′)) (f .len + max (s .scope) y′) ≡ within (f .end + (s .size + n)) (f .len + max (s .scope) y)
         numbers a b = rw (a, b)
 
-    pub fitted : {ok : Bool} → ok ≡ within (f .end + (s .size + n)) (f .len + max (s .scope) y) → ok ≡ true → Fitted x m f s
+    fitted : {ok : Bool} → ok ≡ within (f .end + (s .size + n)) (f .len + max (s .scope) y) → ok ≡ true → Fitted x m f s
     fitted h e R W Q B p z = tested h z ∙ e
 
-    pub turns-outgrown : {ok : Bool} → ok ≡ within (f .end + (s .size + n)) (f .len + max (s .scope) y) → ok ≡ false → s .checked ≡ false → Stated x m f s → (a b : List ℕ)
+    turns-outgrown : {ok : Bool} → ok ≡ within (f .end + (s .size + n)) (f .len + max (s .scope) y) → ok ≡ false → s .checked ≡ false → Stated x m f s → (a b : List ℕ)
         → Turns x m m f s a b (answering 11 (s .place) 0 0 0 s)
     unfolding agendaOf turned
     turns-outgrown h e c g a b = record {

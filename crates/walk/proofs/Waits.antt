@@ -61,13 +61,13 @@ module _ {x : Text} {m : Arrays} {f : FrameRecord} {s : WalkState} {R : Frame} {
   pub two-app : Two (cond (s .«in_term») (x .term) (m .work)) (s .from) (z .end) (z .text) app
   two-app = text-app (z .stands) h
 
-  pub applied : Term
+  applied : Term
   applied = lift (s .shift) (s .cut) (two-app .one)
 
-  pub rest : Term
+  rest : Term
   rest = lift (s .shift) (s .cut) (two-app .two)
 
-  pub is-app : B ≡ app applied rest
+  is-app : B ≡ app applied rest
   unfolding lift applied rest
   is-app = z .seen ∙ ap (lift (s .shift) (s .cut)) (two-app .is)
 
