@@ -1,6 +1,6 @@
 -- A place of a body that is held: what its letter says, and the body with another term there.
 -- Assumes nothing.
-use Prim.Native.Nat.{ℕ, suc, _+_, _-_, _≤_, _<_}
+use Prim.Native.Nat.{ℕ, _+_, _-_, _≤_, _<_}
 use mathlib.Core.Path.{_≡_, refl, ap, sym, subst, _∙_}
 use mathlib.Core.Bool.{Bool, true, false, cond}
 use mathlib.Core.List.{List, _++_, append-assoc}
@@ -13,7 +13,6 @@ use Rattle.calculus.specs.Terms.{Term, var, size, Closed, closed-var}
 use Rattle.calculus.specs.Frames.{Frame, depth}
 use Rattle.code.specs.Limits.{longestTerm, mostAbstractors}
 use Rattle.code.specs.Scope.{scope}
-use Rattle.code.proofs.RoundTrip.{odd}
 use Rattle.code.proofs.Scope.{closed-coded}
 use Rattle.verdict.specs.Bounds.{bodyFits}
 use Rattle.parts.specs.Parts.{part, Copied}

@@ -7,7 +7,7 @@ use mathlib.Core.List.{List, [], _∷_, _++_, append-assoc, append-nil}
 use native.Mathlib.Omega.{arith}
 use lib.ListN.{length, getD, take, drop, length-append}
 use lib.Seq.{take-at, drop-at}
-use Rattle.calculus.specs.Terms.{Term, tau, var, app, abs, size}
+use Rattle.calculus.specs.Terms.{Term, size}
 use Rattle.code.specs.Code.{Coded}
 use Rattle.code.specs.Scope.{scope}
 use Rattle.parts.specs.Parts.{part}
@@ -15,8 +15,8 @@ use Rattle.letters.specs.Letters.{letter, letters, applicator, abstractor, heig
 use Rattle.letters.proofs.Letters.{first, first-small, length-letters, height-letter, head-of, lies-end}
 use Rattle.bodies.specs.Ways.{Way, here, in-argument, past-argument, in-domain, past-domain, put, depthAt, heightAt}
 use Rattle.bodies.specs.Moving.{Spliced}
-use Rattle.bodies.proofs.Ways.{put-same, put-size, way-within, height-least}
-use Rattle.bodies.proofs.Extents.{Parts, app-parts, abs-parts}
+use Rattle.bodies.proofs.Ways.{put-same, height-least}
+use Rattle.bodies.proofs.Extents.{app-parts, abs-parts}
 
 -- ---- The letters before and after.
 unfoldable before : {t u : Term} {p : ℕ} → ℕ → ℕ → Way t p u → List ℕ

@@ -8,10 +8,10 @@ use mathlib.Core.List.{List}
 use Rattle.calculus.specs.Terms.{Term, size}
 use Rattle.calculus.specs.Frames.{Frame}
 use Rattle.calculus.specs.Types.{type}
-use Rattle.calculus.specs.Steps.{Step, Reason, step, reached, refused}
+use Rattle.calculus.specs.Steps.{Step, step, reached}
 use Rattle.verdict.specs.Bounds.{bodyFits}
 use Rattle.frames.specs.declared.FrameRecord.{FrameRecord}
-use Rattle.bodies.specs.Held.{Held, FormAs, form-outgrown, form-held, SteppedAs, step-refused, step-reached, TypedAs, no-type, typed}
+use Rattle.bodies.specs.Held.{Held, FormAs, form-outgrown, form-held, SteppedAs, step-reached, TypedAs, no-type, typed}
 use Rattle.bodies.specs.declared.Form.the-variants.{Refused, Outgrown, Length}
 
 -- A form that is held.

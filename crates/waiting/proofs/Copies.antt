@@ -17,9 +17,9 @@ use Rattle.code.proofs.RoundTrip.{length-encode, encode-bytes}
 use Rattle.code.proofs.Parts.{Head, head-tau, head-var, head-app, head-abs, head, stands-start, stands-end, stands-unique}
 use Rattle.indices.specs.Passes.{Replaced}
 use Rattle.indices.proofs.Pending.{liftByte}
-use Rattle.texts.specs.Texts.{depthIn, Depths, Origin}
+use Rattle.texts.specs.Texts.{depthIn}
 use Rattle.texts.proofs.Depths.{lifted-byte}
-use Rattle.waiting.specs.Writing.{Raised, Copied, Placed}
+use Rattle.waiting.specs.Writing.{Raised, Copied}
 
 -- ---- One byte.
 -- Past the cut-off is what is more than it and the abstractors in scope.

@@ -1,18 +1,17 @@
 -- The waiting applicators in an array.
 -- Assumes nothing.
 use Prim.Native.Nat.{ℕ, zero, suc, _+_, _-_, _*_, _≤_, _<_, max}
-use mathlib.Core.Path.{_≡_, refl, ap, ap₂, sym, _∙_}
+use mathlib.Core.Path.{_≡_, refl, ap, sym, _∙_}
 use mathlib.Core.Bool.{Bool, cond}
 use mathlib.Core.List.{List, [], _∷_}
 use native.Mathlib.Omega.{arith}
 use native.Mathlib.Numerals.{add-one}
-use lib.ListN.{length, getD}
+use lib.ListN.{length}
 use Rattle.calculus.specs.Terms.{Term, size, lift, Closed}
 use Rattle.calculus.specs.Rules.{liftAll}
 use Rattle.calculus.proofs.Lift.{lo, hi, cmp, lift-fusion, size-lift, lift-closed}
 use Rattle.code.specs.Limits.{longestState, mostAbstractors}
 use Rattle.code.specs.Scope.{scope}
-use Rattle.code.specs.Claims.{Stands}
 use Rattle.code.proofs.Parts.{stands-end}
 use Rattle.code.proofs.Scope.{scope-lift, closed-coded}
 use Rattle.frames.specs.Stored.{Agree}

@@ -1,15 +1,14 @@
 -- The walk as a whole.
 -- Assumes nothing.
-use Prim.Native.Nat.{ℕ, zero, suc, _+_, _-_, _*_, _≤_, _<_, max}
+use Prim.Native.Nat.{ℕ, _≤_, _<_}
 use mathlib.Core.Path.{_≡_, refl, ap, sym, _∙_}
-use mathlib.Core.Bool.{true, false}
-use mathlib.Core.List.{List, [], _∷_, map}
+use mathlib.Core.List.{List, [], map}
 use native.Mathlib.Omega.{arith}
-use lib.ListN.{length, getD}
+use lib.ListN.{length}
 use Rattle.calculus.specs.Terms.{Term, size, Closed}
 use Rattle.calculus.specs.Frames.{ε}
 use Rattle.calculus.proofs.Lift.{lift-zero}
-use Rattle.code.specs.Limits.{longestTerm, longestState, mostAbstractors}
+use Rattle.code.specs.Limits.{longestState, mostAbstractors}
 use Rattle.code.specs.Code.{encode, Coded}
 use Rattle.code.specs.Claims.{Stands}
 use Rattle.code.specs.Scope.{scope}
@@ -22,15 +21,14 @@ use Rattle.frames.specs.declared.FrameRecord.{FrameRecord}
 use Rattle.compare.specs.Compares.{GroundIs, is-untyped, is-no-group, is-refused, is-type-outgrown, is-domain-outgrown, is-step-outgrown, is-different}
 use Rattle.compare.specs.declared.Compared.{Compared}
 use Rattle.compare.proofs.Grounds.{ground-number}
-use Rattle.texts.specs.Texts.{Sized, WholeTerm}
+use Rattle.texts.specs.Texts.{WholeTerm}
 use Rattle.texts.proofs.Origins.{origin-own}
 use Rattle.verdict.specs.Bounds.{waitingSize, waitingScope}
-use Rattle.verdict.specs.Verdict.{Ground, not-reached, number, placeOf, Progress, Run, passed, stopped, finish, checkTermBy, checkTerm}
+use Rattle.verdict.specs.Verdict.{Ground, not-reached, number, placeOf, Progress, Run, stopped, checkTermBy, checkTerm}
 use Rattle.verdict.proofs.Promises.{never-not-reached}
 use Rattle.waiting.specs.Waiting.{termsOf, places, lowOf, queue-none}
-use Rattle.walk.specs.State.{Text, textOf, Arrays, sound-empty, no-notes, stateOf, agendaOf, StateAt, Stated}
-use Rattle.walk.specs.Contracts.{startOf, listFull, longestList, Halts, halts-waiting, halts-outgrown, halts-compared, Says, says-passed, says-stopped, says-never, says-full, Checks, Known, Walkable, Answers, answer-passed, answer-stopped, WalkAnswer, WholeAnswer, whole-full, whole-answer}
-use Rattle.walk.specs.declared.WalkState.{WalkState}
+use Rattle.walk.specs.State.{textOf, Arrays, sound-empty, no-notes, stateOf, agendaOf, StateAt, Stated}
+use Rattle.walk.specs.Contracts.{startOf, listFull, longestList, Halts, halts-waiting, halts-outgrown, halts-compared, Says, says-passed, says-stopped, says-never, says-full, Checks, Walkable, Answers, answer-passed, answer-stopped, WalkAnswer, WholeAnswer, whole-full, whole-answer}
 use Rattle.walk.specs.declared.Walked.{Walked}
 use Rattle.walk.proofs.States.{no-confusion}
 

@@ -1,42 +1,41 @@
 -- An abstractor: the entry that it makes, (iv), (v) and (x) to (xii).
 -- Assumes nothing.
-use Prim.Native.Nat.{ℕ, zero, suc, _+_, _-_, _*_, _≤_, _<_, max}
+use Prim.Native.Nat.{ℕ, zero, suc, _+_, _-_, _≤_, _<_, max}
 use mathlib.Core.Path.{_≡_, refl, ap, sym, _∙_}
 use mathlib.Core.Bool.{Bool, true, false, cond}
 use mathlib.Core.Logic.{_⊎_, inl, inr, ⊎-elim}
-use mathlib.Core.List.{List, [], _∷_, map}
+use mathlib.Core.List.{List, [], _∷_}
 use native.Mathlib.Omega.{arith}
 use native.Mathlib.Numerals.{add-one}
-use lib.ListN.{length, getD, set, length-set}
-use Rattle.calculus.specs.Terms.{Term, var, abs, size, lift, Closed, closed-abs}
+use lib.ListN.{length, getD, length-set}
+use Rattle.calculus.specs.Terms.{Term, abs, size, lift, Closed, closed-abs}
 use Rattle.calculus.specs.Frames.{Entry, single, pair, domain, Frame, _▹_, depth}
 use Rattle.calculus.specs.Walks.{statesOf}
 use Rattle.calculus.proofs.Lift.{lift-zero, size-lift}
-use Rattle.code.specs.Limits.{longestFile, longestTerm, longestState, mostAbstractors}
+use Rattle.code.specs.Limits.{longestFile, longestState, mostAbstractors}
 use Rattle.code.specs.Claims.{Stands}
 use Rattle.code.specs.Scope.{scope}
 use Rattle.code.proofs.Parts.{stands-start, stands-end, stands-unique}
 use Rattle.code.proofs.Scope.{scope-lift, closed-coded}
-use Rattle.fields.specs.Fields.{GroupAt, Groups}
 use Rattle.fields.proofs.Groups.{room as room-left}
 use Rattle.frames.specs.Stored.{Stored, Agree, EntryBytes, bytes-single, bytes-pair, pushed}
 use Rattle.frames.specs.declared.FrameRecord.{FrameRecord}
-use Rattle.frames.proofs.Entries.{agree-refl, agree-part, agree-trans, agree-set, stands-agree, bytes-start, bytes-end}
+use Rattle.frames.proofs.Entries.{agree-refl, agree-part, agree-trans, stands-agree, bytes-start}
 use Rattle.frames.proofs.Laws.{stored-depth, stored-push, stored-agree}
 use Rattle.compare.specs.declared.Compared.{Compared}
-use Rattle.compare.specs.Compares.{Comparing, GroundIs, CompareSays, compare-passed, compare-stopped, Compares}
+use Rattle.compare.specs.Compares.{Comparing, CompareSays, compare-passed, compare-stopped, Compares}
 use Rattle.compare.proofs.Grounds.{ground-number}
 use Rattle.texts.specs.Texts.{Origin}
 use Rattle.texts.proofs.Origins.{origin-abs, origin-lift}
 use Rattle.verdict.specs.Bounds.{waitingSize, waitingScope}
-use Rattle.verdict.specs.Verdict.{same-at, Progress, Run, passed, stopped, andThen, finish}
+use Rattle.verdict.specs.Verdict.{same-at, Progress, Run, andThen, finish}
 use Rattle.waiting.specs.Waiting.{Waiting, termsOf, liftWaiting, Part, slotOf, lowOf, Waits, Queue, KeptSlot}
 use Rattle.waiting.specs.Writing.{WrittenTerm, PutAsked, Puts}
 use Rattle.waiting.specs.declared.Slot.{Slot}
 use Rattle.waiting.proofs.Texts.{positive, Two, text-abs}
-use Rattle.waiting.proofs.Queues.{size-lifted, scope-lifted, queue-empty, queue-base, Last, queue-last, queue-deeper, queue-agree, queue-before, raw-size, now-part, waits-writable, waits-written, seen, waits-at, descends, kept-through}
-use Rattle.walk.specs.State.{Text, Arrays, Sound, sound-single, sound-pair, Notes, Reached, stateOf, restOf, agendaOf, OwnText, StateAt}
-use Rattle.walk.specs.Contracts.{answering, going, pastOf, DepthsKnown, Halts, halts-compared, Says, says-stopped, Becomes, becomes-answer, becomes-state, Keeps, Onward}
+use Rattle.waiting.proofs.Queues.{size-lifted, scope-lifted, queue-empty, queue-base, Last, queue-last, queue-deeper, queue-agree, queue-before, raw-size, now-part, waits-writable, waits-written, seen, waits-at, kept-through}
+use Rattle.walk.specs.State.{Text, Arrays, Sound, sound-single, sound-pair, Reached, stateOf, restOf, agendaOf, OwnText, StateAt}
+use Rattle.walk.specs.Contracts.{answering, going, pastOf, DepthsKnown, halts-compared, says-stopped, Becomes, becomes-answer, becomes-state}
 use Rattle.walk.specs.declared.WalkState.{WalkState}
 use Rattle.walk.specs.declared.Turned.{Turned}
 use Rattle.walk.proofs.Rules.{rest-alone, rest-waiting, rest-copied}

@@ -6,7 +6,7 @@ use Prim.Native.Nat.{ℕ, zero, suc, _+_, _-_, _*_, _≤_, _<_, max}
 use mathlib.Core.Option.{Option, none, some}
 use mathlib.Core.List.{List, [], _∷_, _++_}
 use native.Mathlib.Omega.{arith}
-use lib.ListN.{length, drop}
+use lib.ListN.{length}
 use Rattle.calculus.specs.Terms.{Term, tau, var, app, abs}
 use Rattle.calculus.specs.Types.{nth, degreeIn}
 use Rattle.code.specs.Limits.{longestState}

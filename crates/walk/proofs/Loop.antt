@@ -1,34 +1,33 @@
 -- The loop of turns, and what stands inside a wagon.
 -- Assumes nothing.
-use Prim.Native.Nat.{ℕ, zero, suc, _+_, _-_, _*_, _≤_, _<_, max}
+use Prim.Native.Nat.{ℕ, suc, _+_, _≤_, _<_}
 use mathlib.Core.Path.{_≡_, refl, ap, sym, _∙_}
 use mathlib.Core.Bool.{Bool, true, false, cond}
-use mathlib.Core.List.{List, [], _∷_}
+use mathlib.Core.List.{List, []}
 use native.Mathlib.Omega.{arith}
 use native.Mathlib.Numerals.{add-one}
 use borrow.Author.Tests.{eq-eqb, ne-eqb}
 use lib.Dec.{eqb}
 use lib.ListN.{length, getD}
-use Rattle.calculus.specs.Terms.{Term, app, abs, size, lift, Closed, closed-app, closed-abs}
+use Rattle.calculus.specs.Terms.{Term, app, abs, lift, Closed, closed-app, closed-abs}
 use Rattle.calculus.specs.Frames.{Frame}
 use Rattle.calculus.specs.Walks.{statesOf}
 use Rattle.calculus.proofs.Lift.{Cmp, lo, hi, cmp, lift-zero}
-use Rattle.code.specs.Limits.{longestTerm, longestState, mostAbstractors}
+use Rattle.code.specs.Limits.{longestTerm, mostAbstractors}
 use Rattle.code.specs.Claims.{Stands}
-use Rattle.code.specs.Scope.{scope}
 use Rattle.code.proofs.Parts.{stands-start, stands-end}
-use Rattle.frames.specs.Stored.{Agree, pushed}
+use Rattle.frames.specs.Stored.{pushed}
 use Rattle.frames.specs.declared.FrameRecord.{FrameRecord}
-use Rattle.frames.proofs.Entries.{agree-refl, agree-part, agree-trans}
+use Rattle.frames.proofs.Entries.{agree-part, agree-trans}
 use Rattle.frames.proofs.Laws.{stored-agree}
 use Rattle.compare.specs.declared.Compared.{Compared}
 use Rattle.compare.specs.Compares.{Comparing, Compares}
 use Rattle.compare.proofs.Grounds.{ground-number}
 use Rattle.texts.proofs.Origins.{origin-own}
 use Rattle.verdict.specs.Bounds.{stateFits, waitingSize, waitingScope}
-use Rattle.verdict.specs.Verdict.{Ground, Progress, Run, passed, stopped, andThen, turned, finish}
-use Rattle.waiting.specs.Waiting.{Waiting, termsOf, lowOf, Queue, queue-none}
-use Rattle.waiting.proofs.Texts.{positive, Two, text-app, text-abs}
+use Rattle.verdict.specs.Verdict.{Ground, Progress, Run, andThen, turned, finish}
+use Rattle.waiting.specs.Waiting.{Waiting, termsOf, lowOf, queue-none}
+use Rattle.waiting.proofs.Texts.{text-app, text-abs}
 use Rattle.waiting.proofs.Queues.{queue-base, queue-keep, low-same, descends, kept-through}
 use Rattle.walk.specs.State.{Text, Arrays, Reached, stateOf, restOf, agendaOf, OwnText, StateAt, Stated}
 use Rattle.walk.specs.Contracts.{answering, going, completedOf, innerOf, checkedOf, frameAfter, Halts, halts-waiting, halts-outgrown, halts-compared, Says, says-passed, says-stopped, says-never, says-full, Becomes, becomes-answer, becomes-state, becomes-inner, Keeps, Onward, Comes, comes-now, comes-compared, settledOf, Turns, Settles, InnerAt, Checks}

@@ -1,25 +1,24 @@
 -- States: the test of the limits, the notes of a frame, and what stays when arrays change.
 -- Assumes nothing.
-use Prim.Native.Nat.{ℕ, zero, suc, _+_, _-_, _*_, _≤_, _<_, max}
+use Prim.Native.Nat.{ℕ, zero, suc, _+_, _-_, _≤_, _<_, max}
 use mathlib.Core.Path.{_≡_, refl, ap, sym, _∙_}
 use mathlib.Core.Bool.{Bool, true, false, cond}
-use mathlib.Core.Option.{Option, none, some}
-use mathlib.Core.List.{List, [], _∷_}
+use mathlib.Core.Option.{some}
+use mathlib.Core.List.{List, []}
 use native.Mathlib.Omega.{arith}
 use lib.Dec.{leb}
-use lib.ListN.{length, getD, set, length-set}
+use lib.ListN.{length, getD, set}
 use lib.Seq.{getD-set-same}
 use borrow.Author.Tests.{le-leb, lt-leb, leb-true}
-use Rattle.calculus.specs.Terms.{Term, size, lift}
-use Rattle.calculus.specs.Frames.{Entry, single, pair, domain, Frame, ε, _▹_, depth, entryAt, ClosedFrame, closed-empty, closed-entry, closed-single, closed-pair}
-use Rattle.calculus.specs.Rules.{own, copied}
+use Rattle.calculus.specs.Terms.{Term, size}
+use Rattle.calculus.specs.Frames.{Entry, domain, Frame, _▹_, entryAt, ClosedFrame, closed-empty, closed-entry, closed-single, closed-pair}
+use Rattle.calculus.specs.Rules.{own}
 use Rattle.calculus.proofs.Lift.{lo, hi, cmp, size-lift}
 use Rattle.code.specs.Limits.{longestTerm, longestState, mostAbstractors}
 use Rattle.code.specs.Claims.{Stands}
 use Rattle.code.specs.Scope.{scope}
-use Rattle.code.proofs.Parts.{stands-start, stands-end}
 use Rattle.code.proofs.Scope.{scope-lift}
-use Rattle.frames.specs.Stored.{Stored, Agree}
+use Rattle.frames.specs.Stored.{Agree}
 use Rattle.frames.specs.declared.FrameRecord.{FrameRecord}
 use Rattle.frames.proofs.Entries.{agree-part, agree-set, stands-agree}
 use Rattle.frames.proofs.Laws.{stored-depth, stored-size}
@@ -30,7 +29,7 @@ use Rattle.verdict.specs.Verdict.{Progress, turned}
 use Rattle.verdict.proofs.Runs.{cond-both}
 use Rattle.waiting.specs.Waiting.{Waiting, termsOf, lowOf}
 use Rattle.waiting.proofs.Queues.{queue-base, descends}
-use Rattle.walk.specs.State.{Text, Arrays, Sound, sound-empty, sound-single, sound-pair, Notes, no-notes, one-note, Reached, stateOf, OwnText, StateAt}
+use Rattle.walk.specs.State.{Text, Arrays, Sound, sound-empty, sound-single, sound-pair, Notes, no-notes, one-note, Reached, stateOf, StateAt}
 use Rattle.walk.specs.Contracts.{within}
 use Rattle.walk.specs.declared.WalkState.{WalkState}
 

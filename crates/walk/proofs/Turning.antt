@@ -1,40 +1,37 @@
 -- A turn as a whole: the test, the terminals, and what follows a wagon.
 -- Assumes nothing.
-use Prim.Native.Nat.{ℕ, zero, suc, _+_, _-_, _*_, _≤_, _<_, max}
+use Prim.Native.Nat.{ℕ, suc, _+_, _-_, _*_, _≤_, _<_, max}
 use mathlib.Core.Path.{_≡_, refl, ap, sym, _∙_}
 use mathlib.Core.Bool.{Bool, true, false, cond, not}
-use mathlib.Core.Option.{Option, none, some}
+use mathlib.Core.Option.{some}
 use mathlib.Core.List.{List, [], _∷_}
 use native.Mathlib.Omega.{arith}
-use native.Mathlib.Numerals.{add-one}
 use lib.ListN.{length, getD}
 use Rattle.calculus.specs.Terms.{Term, tau, var, app, abs, size, lift, liftIndex, Closed, closed-var}
 use Rattle.calculus.specs.Frames.{Entry, domain, Frame, entryAt}
 use Rattle.calculus.specs.Walks.{statesOf}
-use Rattle.calculus.proofs.Lift.{Cmp, lo, hi, cmp, size-lift}
+use Rattle.calculus.proofs.Lift.{Cmp, lo, hi, cmp}
 use Rattle.calculus.proofs.End.{domains, domain-at}
 use Rattle.code.specs.Limits.{longestTerm, longestState, mostAbstractors}
-use Rattle.code.specs.Claims.{Stands}
 use Rattle.code.specs.Scope.{scope}
-use Rattle.code.proofs.Parts.{stands-start, stands-end}
+use Rattle.code.proofs.Parts.{stands-start}
 use Rattle.frames.specs.declared.FrameRecord.{FrameRecord}
 use Rattle.frames.proofs.Entries.{agree-refl, agree-part}
 use Rattle.frames.proofs.Laws.{stored-depth}
-use Rattle.texts.specs.Texts.{Sized, Origin}
-use Rattle.texts.proofs.Origins.{origin-size, origin-scope, origin-inside, origin-lift}
-use Rattle.verdict.specs.Bounds.{stateFits, waitingSize, waitingScope}
+use Rattle.texts.proofs.Origins.{origin-size, origin-scope, origin-inside}
+use Rattle.verdict.specs.Bounds.{stateFits}
 use Rattle.verdict.specs.Verdict.{something-waits, not-reached, Progress, Run, passed, stopped, turned, finish}
-use Rattle.waiting.specs.Waiting.{Waiting, termsOf, places, slotOf}
-use Rattle.waiting.proofs.Texts.{positive, text-tau, Variable, text-var, Two, text-app, text-abs, text-in}
-use Rattle.waiting.proofs.Queues.{queue-empty, queue-base, queue-length, queue-count, Last, queue-last, descends}
-use Rattle.walk.specs.State.{Text, Arrays, stateOf, restOf, agendaOf, OwnText, StateAt, Stated}
-use Rattle.walk.specs.Contracts.{within, answering, going, metOf, typedOf, pastOf, Halts, halts-waiting, halts-outgrown, Says, says-passed, says-stopped, says-never, says-full, Becomes, becomes-answer, becomes-state, becomes-inner, Comes, comes-now, Keeps, Onward, WagonAt, AbstractorAt, SizesKnown, Wagons, Turns, Known, TestAs, test-made, test-is, DueAs, due-first, not-due, TauTurn, tau-never, tau-passes, tau-waits, slotFor, WaitReady, WaitTurn, wait-full, wait-goes, InnerAt}
+use Rattle.waiting.specs.Waiting.{Waiting, places, slotOf}
+use Rattle.waiting.proofs.Texts.{positive, text-tau, text-var, text-app, text-abs, text-in}
+use Rattle.waiting.proofs.Queues.{queue-empty, queue-base, queue-count, queue-last, descends}
+use Rattle.walk.specs.State.{Text, Arrays, stateOf, restOf, agendaOf, StateAt, Stated}
+use Rattle.walk.specs.Contracts.{within, answering, going, metOf, typedOf, halts-waiting, halts-outgrown, says-passed, says-stopped, says-never, says-full, Becomes, becomes-answer, becomes-state, becomes-inner, Comes, comes-now, Keeps, Onward, AbstractorAt, SizesKnown, Wagons, Turns, Known, TestAs, test-made, test-is, DueAs, due-first, not-due, TauTurn, tau-never, tau-passes, tau-waits, WaitReady, WaitTurn, wait-full, wait-goes}
 use Rattle.walk.specs.declared.WalkState.{WalkState}
 use Rattle.walk.specs.declared.Turned.{Turned}
 use Rattle.walk.proofs.Rules.{run-outgrown, run-tau-passes, run-tau-waits, run-tau-never, run-met, run-typed, run-copied-app, run-copied-abs}
 use Rattle.walk.proofs.Measures.{fewer-met, fewer-typed}
-use Rattle.walk.proofs.States.{no-confusion, sound-closed, Meant, meant, reached-turned, Room, body-size, body-scope, origin-bound, state-fits, room}
-use Rattle.walk.proofs.Waits.{asideArrays, two-app, origins-app, wait-ready, aside-same, nextApp, app-becomes, full-short}
+use Rattle.walk.proofs.States.{no-confusion, sound-closed, Meant, meant, reached-turned, body-size, body-scope, origin-bound, state-fits, room}
+use Rattle.walk.proofs.Waits.{asideArrays, two-app, origins-app, wait-ready, aside-same, app-becomes, full-short}
 
 pub is-false : (b : Bool) → not b ≡ true → b ≡ false
 is-false true e = sym e

@@ -1,17 +1,17 @@
 -- An applicator: its K waits, (iii) and (ix).
 -- Assumes nothing.
-use Prim.Native.Nat.{ℕ, zero, suc, _+_, _-_, _*_, _≤_, _<_, max}
+use Prim.Native.Nat.{ℕ, suc, _+_, _-_, _*_, _≤_, _<_, max}
 use mathlib.Core.Path.{_≡_, refl, ap, sym, _∙_}
 use mathlib.Core.Bool.{Bool, true, false, cond}
 use mathlib.Core.List.{List, [], _∷_}
 use native.Mathlib.Omega.{arith}
 use native.Mathlib.Numerals.{add-one}
 use lib.ListN.{length, getD}
-use Rattle.calculus.specs.Terms.{Term, var, app, size, lift, Closed, closed-app}
+use Rattle.calculus.specs.Terms.{Term, app, size, lift, Closed, closed-app}
 use Rattle.calculus.specs.Frames.{Frame}
 use Rattle.calculus.specs.Walks.{statesOf}
 use Rattle.calculus.proofs.Lift.{lo, hi, cmp, lift-zero, size-lift}
-use Rattle.code.specs.Limits.{longestTerm, longestState, mostAbstractors}
+use Rattle.code.specs.Limits.{longestState}
 use Rattle.code.specs.Claims.{Stands}
 use Rattle.code.specs.Scope.{scope}
 use Rattle.code.proofs.Parts.{stands-start, stands-end}
@@ -21,19 +21,17 @@ use Rattle.frames.specs.declared.FrameRecord.{FrameRecord}
 use Rattle.frames.proofs.Entries.{agree-refl, agree-part, stands-agree}
 use Rattle.frames.proofs.Laws.{stored-agree}
 use Rattle.texts.specs.Texts.{Origin}
-use Rattle.texts.proofs.Origins.{origin-app, origin-inside}
+use Rattle.texts.proofs.Origins.{origin-app}
 use Rattle.verdict.specs.Bounds.{waitingSize, waitingScope}
 use Rattle.verdict.specs.Verdict.{Progress, finish}
 use Rattle.waiting.specs.Waiting.{Waiting, termsOf, slotOf, slotIn, lowOf, Waits, Queue, queue-none, queue-one, Kept, KeptSlot, Noted}
 use Rattle.waiting.specs.Writing.{Moved}
 use Rattle.waiting.proofs.Bytes.{stands-same}
 use Rattle.waiting.proofs.Texts.{positive, Two, text-app}
-use Rattle.waiting.proofs.Queues.{queue-length, queue-keep, queue-agree, queue-base, seen, waits-at, low-same, descends, kept-through}
-use Rattle.waiting.specs.declared.Slot.{Slot}
-use Rattle.walk.specs.State.{Text, Arrays, Notes, stateOf, restOf, agendaOf, OwnText, StateAt}
-use Rattle.walk.specs.Contracts.{going, pastOf, longestList, slotFor, WaitReady, PutAside, aside-copied, aside-own, Says, says-full, Becomes, becomes-answer, becomes-state, Keeps, Onward, Wagons}
+use Rattle.waiting.proofs.Queues.{queue-length, queue-keep, queue-agree, queue-base, seen, waits-at, low-same, kept-through}
+use Rattle.walk.specs.State.{Text, Arrays, stateOf, restOf, agendaOf, OwnText, StateAt}
+use Rattle.walk.specs.Contracts.{going, pastOf, longestList, slotFor, WaitReady, PutAside, aside-copied, aside-own, Becomes, becomes-state}
 use Rattle.walk.specs.declared.WalkState.{WalkState}
-use Rattle.walk.specs.declared.Turned.{Turned}
 use Rattle.walk.proofs.Rules.{rest-app-own, rest-app-copied}
 use Rattle.walk.proofs.Measures.{fewer-app}
 use Rattle.walk.proofs.States.{no-confusion, notes-keep, Room, body-size, body-scope, own-low, origin-bound}

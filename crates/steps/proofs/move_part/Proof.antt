@@ -1,6 +1,5 @@
 -- `steps::move_part` meets its contract: the part moves by the difference of the two places.
 -- Assumes nothing.
-use Prim.Native.Nat.{_-_}
 use native.Mathlib.Omega.{arith}
 use mathlib.Core.Path.{subst}
 use Rattle.parts.specs.Parts.{Copied}

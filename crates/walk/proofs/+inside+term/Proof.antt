@@ -1,16 +1,15 @@
 -- `walk::+inside+term` meets its contract.
 -- Assumes nothing.
 use native.Mathlib.Omega.{arith}
-use Prim.Native.Nat.{_-_, _+_}
-use mathlib.Core.Path.{_≡_, refl, ap, sym, _∙_}
+use Prim.Native.Nat.{_+_}
+use mathlib.Core.Path.{refl}
 use borrow.Author.Needs.{needs}
 use Rattle.compare.specs.Sides.{Buffers}
 use Rattle.walk.specs.State.{textOf, arraysOf}
 use Rattle.walk.specs.Contracts.{Known, DepthsKnown}
-use Rattle.walk.proofs.Falls.{degreeAndSize, falls-on}
+use Rattle.walk.proofs.Falls.{degreeAndSize}
 use Rattle.walk.proofs.Measures.{falling}
-use Rattle.walk.proofs.Turning.{is-false, is-true}
-use Rattle.walk.proofs.Loop.{settles-now, compare-due, compared-stops, compared-goes, compared-falls, compared-bounds, compared-few, Going, going-start, now-stated, inner-stated, going-done, going-on, going-falls, on-same, on-entered, inner-due, inner-place, inside-falls, on-bounds, on-same-falls, on-entered-falls, inner-stops, going-resumed, resumed-falls}
+use Rattle.walk.proofs.Loop.{settles-now, compare-due, compared-stops, compared-goes, compared-falls, compared-bounds, compared-few, Going, going-start, now-stated, inner-stated, going-done, on-same, on-entered, inner-due, inner-place, inside-falls, on-bounds, on-same-falls, on-entered-falls, inner-stops, going-resumed, resumed-falls}
 use Prim.Native.Nat.{ℕ, _<_}
 use borrow.Fn.Kinds.{In}
 use borrow.Fn.PlainCycle.{Measures, is, falls, and}

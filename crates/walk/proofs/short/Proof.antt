@@ -1,6 +1,6 @@
 -- `walk::short` meets its contract.
 -- Assumes nothing.
-use mathlib.Core.Path.{_≡_, refl}
+use mathlib.Core.Path.{refl}
 use native.Mathlib.Omega.{arith}
 use Rattle.walk.specs.Contracts.{whole-full}
 use borrow.Author.Needs.{needs}

@@ -1,7 +1,7 @@
 -- `walk::turn` meets its contract.
 -- Assumes nothing.
 use native.Mathlib.Omega.{arith}
-use mathlib.Core.Path.{_≡_, refl, ap, sym, _∙_}
+use mathlib.Core.Path.{ap, sym, _∙_}
 use Rattle.calculus.specs.Terms.{liftIndex}
 use Rattle.walk.proofs.Turning.{is-false, is-true, fitted-test, outgrown-test, origin-in, fits-bounds, symbol-in, tau-ready, tau-onward, turns-tau, turns-met, index-bounds, turns-typed, turns-inner, is-due, done-first, inside-origin, origin-small, ready-to-wait, turns-wait, abstractor-at, turns-wagon, sizes-known}
 use borrow.Author.Needs.{needs}

@@ -1,6 +1,5 @@
 -- `walk::walk_term` meets its contract.
 -- Assumes nothing.
-use mathlib.Core.Path.{_≡_, refl}
 use native.Mathlib.Omega.{arith}
 use Rattle.walk.proofs.Beginning.{whole-term, not-full, long-enough}
 use borrow.Author.Needs.{needs}

@@ -1,6 +1,6 @@
 -- `walk::whole` meets its contract.
 -- Assumes nothing.
-use mathlib.Core.Path.{_≡_, refl, sym, _∙_}
+use mathlib.Core.Path.{refl}
 use native.Mathlib.Omega.{arith}
 use Rattle.walk.proofs.Beginning.{whole-term, begun, answered}
 use borrow.Author.Needs.{needs}
