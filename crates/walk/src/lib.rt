@@ -65,14 +65,13 @@ pub struct Walked {
     pub third: usize,
 }
 
-// A state (R, W, B) of the term's own text or (R, W, Y, B) of copied text, but for its frame R.
+// A state (R, W, B) of the term's own text or (R, W, Y, B) of copied text, but for its frame R. The order of the fields was tried: where
+// the three bools stand, LLVM's code differs by up to a tenth (docs/BENCHMARK.md).
 pub struct WalkState {
-    // B is the term's own text
-    pub own: bool,
     // what stands inside B's first applicator or abstractor has been checked
     pub checked: bool,
-    // B's bytes stand in the term; else in the work array
-    pub in_term: bool,
+    // B is the term's own text
+    pub own: bool,
     // where B begins in the term; in copied text, the variable that it stems from
     pub place: usize,
     // where B's bytes begin
@@ -92,6 +91,8 @@ pub struct WalkState {
     // the next group, and the comparisons completed
     pub next: usize,
     pub comparisons: usize,
+    // B's bytes stand in the term; else in the work array
+    pub in_term: bool,
 }
 
 // `entered` says that the frame has one more entry, whose bytes end at `end`.
