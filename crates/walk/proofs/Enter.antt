@@ -313,7 +313,7 @@ module _ {x : Text} {m : Arrays} {f : FrameRecord} {s : WalkState} {R : Frame} {
         applied-written : WrittenTerm 0xfe (m .work) w₁ (f .end) a (w .term)
         applied-written = waits-written (l .slot) (rw last-end at u)
 
-        applied-past : (a ≡ f .end + suc (size (w .term))) × (f .end ≤ a) × (a + suc (size (two-abs .one)) ≤ longestState)
+        pub applied-past : (a ≡ f .end + suc (size (w .term))) × (f .end ≤ a) × (a + suc (size (two-abs .one)) ≤ longestState)
         applied-past = let h = applied-written .stands .place in (omega arith, omega arith, omega (arith, l .fits))
 
         pub domain-asked : {depths : List ℕ} → DepthsKnown (x .term) depths → PutAsked (x .term) depths w₁ (s .«in_term») (s .from + 1) (s .from + 1 + n) (s .origin + 1) a (s .shift) (s .cut) 0
