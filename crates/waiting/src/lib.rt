@@ -166,6 +166,33 @@ fn copy(t: &[u8], work: &mut Work, in_term: bool, p: usize, n: usize, to: usize)
     copy_in(work, p, n, to);
 }
 
+// The mark and a term, as `put` writes them: copied, and then lifted where it stands.
+fn put_long(
+    t: &[u8],
+    depths: &[u8],
+    work: &mut Work,
+    mark: u8,
+    in_term: bool,
+    p: usize,
+    e: usize,
+    o: usize,
+    to: usize,
+    n: usize,
+    c: usize,
+    m: usize,
+) -> usize
+    requires { ⌜ PutAsked (now t) (now depths) (now work) in_term p e o to n c m ⌝ }
+    ensures { λ r. ⌜ Puts mark (cond in_term (now (t .entry)) (now (work .entry))) (now (work .entry)) (now (work .exit)) p e n c m to r ⌝ }
+{
+    let size = e - p;
+    let end = to + 1 + size;
+    work[to] = mark;
+    copy(t, work, in_term, p, size, to + 1);
+    lift_copy(work, to + 1, end, depths, o, n, c);
+    lift_copy(work, to + 1, end, depths, o, m, 0);
+    end
+}
+
 // The mark, and the term from p up to e of t or of the work array, a copy of the text of t at o, lifted by n above c and then by m.
 pub fn put(
     t: &[u8],
@@ -185,16 +212,11 @@ pub fn put(
     ensures { λ r. ⌜ Puts mark (cond in_term (now (t .entry)) (now (work .entry))) (now (work .entry)) (now (work .exit)) p e n c m to r ⌝ }
 {
     let size = e - p;
-    let end = to + 1 + size;
     if size == 1 {
         let b = byte_in(t, work, in_term, p);
         work[to] = mark;
         work[to + 1] = lifted_byte(lifted_byte(b, n, c), m, 0);
-        return end;
+        return to + 1 + size;
     }
-    work[to] = mark;
-    copy(t, work, in_term, p, size, to + 1);
-    lift_copy(work, to + 1, end, depths, o, n, c);
-    lift_copy(work, to + 1, end, depths, o, m, 0);
-    end
+    put_long(t, depths, work, mark, in_term, p, e, o, to, n, c, m)
 }

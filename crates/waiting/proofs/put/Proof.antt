@@ -1,20 +1,18 @@
 -- `waiting::put` meets its contract.
 -- Assumes nothing.
 use native.Mathlib.Omega.{arith}
-use lib.ListN.{length-set}
-use Rattle.waiting.proofs.Bytes.{moved-mark, whole, first-asked, second-asked, puts, byte-asked, again-asked, one-puts, apart-copy, apart-mark, source-length}
+use Rattle.waiting.proofs.Bytes.{whole, byte-asked, again-asked, one-puts}
 use borrow.Author.Needs.{needs}
 use Rattle.waiting.proofs.put.Statement.{statement}
 use Rattle.waiting.proofs.put.Tie as tie
+use Rattle.waiting.proofs.put.Reads as reads
+use Rattle.waiting.proofs.put.Lts as lts
+use Rattle.waiting.proofs.byte_in.Reads as byte-in-reads
+use Rattle.waiting.proofs.lifted_byte.Reads as lifted-byte-reads
+use Rattle.waiting.proofs.put_long.Reads as put-long-reads
 
 sub-size : tie.Need-sub-size
 sub-size c = search needs
-
-add-end : tie.Need-add-end
-add-end c = search needs
-
-add-end-2 : tie.Need-add-end-2
-add-end-2 c = search needs
 
 byte-in-requires : tie.Need-byte-in-requires
 byte-in-requires c κs = (omega (arith, whole 0 (c .before .before .before .before .pre .4)), c .before .before .before .before .pre .4 .work)
@@ -34,52 +32,34 @@ add-work c = search needs
 element-write-work-2 : tie.Need-element-write-work-2
 element-write-work-2 c = search needs
 
+add-result : tie.Need-add-result
+add-result c = search needs
+
+add-result-2 : tie.Need-add-result-2
+add-result-2 c = search needs
+
 returns : tie.Need-returns
 returns c = one-puts _ (c .before .before .before .before .before .before .before .pre .4) (c .before .before .before .before .if1 .taken) (c .before .before .byte-in .ensures) (c .before .lifted-byte .ensures) (c .lifted-byte2 .ensures)
 
-element-write-work-3 : tie.Need-element-write-work-3
-element-write-work-3 c = search needs
-
-add-copy : tie.Need-add-copy
-add-copy c = search needs
-
-copy-requires : tie.Need-copy-requires
-copy-requires c κs = let h = whole 0 (c .before .before .before .before .pre .4) in (omega (arith, source-length (c .before .before .before .before .args .t .now) (c .before .before .before .before .args .work .now) (c .before .before .before .before .args .in-term) (c .before .before .before .before .args .to) (c .before .before .before .before .args .mark)), (λ f. apart-copy (h .0) (c .before .before .before .before .pre .3 f)), omega arith, simp length-set (c .before .before .before .before .pre .4 .work))
-
-add-lift-copy : tie.Need-add-lift-copy
-add-lift-copy c = search needs
-
-lift-copy-requires : tie.Need-lift-copy-requires
-lift-copy-requires c κs = (c .before .before .before .before .before .before .pre .0, c .before .before .before .before .before .before .pre .1, let h = whole 0 (c .before .before .before .before .before .before .pre .4) in first-asked _ (c .before .before .before .before .before .before .pre .4) (moved-mark _ _ _ _ _ (λ f. apart-mark (h .0) (c .before .before .before .before .before .before .pre .3 f)) (c .before .copy .ensures)) (c .before .before .before .before .before .before .pre .5))
-
-add-lift-copy-2 : tie.Need-add-lift-copy-2
-add-lift-copy-2 c = search needs
-
-lift-copy-requires-2 : tie.Need-lift-copy-requires-2
-lift-copy-requires-2 c κs = (c .before .before .before .before .before .before .before .before .pre .2, omega arith, let h = whole 0 (c .before .before .before .before .before .before .before .before .pre .4) in second-asked _ (c .before .before .before .before .before .before .before .before .pre .4) (moved-mark _ _ _ _ _ (λ f. apart-mark (h .0) (c .before .before .before .before .before .before .before .before .pre .3 f)) (c .before .before .before .copy .ensures)) (c .before .lift-copy .ensures) (c .before .before .before .before .before .before .before .before .pre .5))
+put-long-requires : tie.Need-put-long-requires
+put-long-requires c κs = search needs
 
 returns-2 : tie.Need-returns-2
-returns-2 c = let h = whole 0 (c .before .before .before .before .before .before .before .before .before .pre .4) in puts _ (c .before .before .before .before .before .before .before .before .before .pre .4) (moved-mark _ _ _ _ _ (λ f. apart-mark (h .0) (c .before .before .before .before .before .before .before .before .before .pre .3 f)) (c .before .before .before .before .copy .ensures)) (c .before .before .lift-copy .ensures) (c .lift-copy2 .ensures)
+returns-2 c = search needs
 
 pub put-spec : {M : Type 1} → statement M
 put-spec =
     tie.close
     (tie.spec
     sub-size
-    add-end
-    add-end-2
     byte-in-requires
     element-write-work
     lifted-byte-requires
     lifted-byte-requires-2
     add-work
     element-write-work-2
+    add-result
+    add-result-2
     returns
-    element-write-work-3
-    add-copy
-    copy-requires
-    add-lift-copy
-    lift-copy-requires
-    add-lift-copy-2
-    lift-copy-requires-2
+    put-long-requires
     returns-2)
