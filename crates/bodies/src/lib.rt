@@ -58,11 +58,14 @@ struct Source {
 }
 
 // ---- Parts of the array.
-// The part moves up, last letter first: old and new place may overlap.
+// The part moves up, last letter first: old and new place may overlap. By 0, as where one letter takes another's place, nothing moves.
 pub fn move_right(s: &mut Letters, from: usize, to: usize, by: usize)
     requires { ⌜ (from ≤ to) × (to + by ≤ length (now s)) × (length (now s) ≡ longestTerm) ⌝ }
     ensures { λ r. ⌜ Copied (now (s .entry)) from to (now (s .entry)) (now (s .exit)) (from + by) ⌝ }
 {
+    if by == 0 {
+        return;
+    }
     let mut i = to;
     while from < i {
         i -= 1;
