@@ -8,6 +8,7 @@ pub mod States
 pub mod Waits
 pub mod Enter
 pub mod Entering
+pub mod Cases
 pub mod Turning
 pub mod Loop
 pub mod Beginning

@@ -383,14 +383,6 @@ module _ {x : Text} {m : Arrays} {f : FrameRecord} {s : WalkState} (g : Stated x
 pub sizes-known : {t sizes scopes : List ℕ} → Known t sizes scopes → SizesKnown t sizes
 sizes-known k = record { sizes-are = λ o X h. origin-size (k .sized) h; long = k .sizes-long }
 
-pub is-due : {s : WalkState} {b : Bool} → b ≡ true → DueAs s b → (s .own ≡ true) × (s .checked ≡ false)
-is-due e (due-first i j) = (i, j)
-is-due e (not-due i) = no-confusion e
-
-pub done-first : {s : WalkState} {b : Bool} → b ≡ false → DueAs s b → s .own ≡ true → s .checked ≡ true
-done-first e (due-first i j) = no-confusion (sym e)
-done-first e (not-due i) = i
-
 pub due-is : {s : WalkState} (b : Bool) → s .own ≡ b → s .checked ≡ false → DueAs s b
 due-is true e c = due-first e c
 due-is false e c = not-due (λ i. no-confusion (sym e ∙ i))
@@ -406,6 +398,13 @@ tau-onward (tau-waits i j) = record { end-grows = omega arith; len-grows = omega
 
 pub tau-ready : {x : Text} {m : Arrays} {f : FrameRecord} {s : WalkState} → Stated x m f s → (s .bottom ≤ s .top) × (6 * s .top ≤ length (m .list))
 tau-ready g = (omega (arith, queue-base (g .at .held .waits), queue-base (g .at .held .copies)), g .at .held .listed)
+
+-- in the term's own text Y is empty
+pub own-tops : {x : Text} {m : Arrays} {f : FrameRecord} {s : WalkState} → Stated x m f s → s .own ≡ true → s .middle ≡ s .top
+own-tops g o = g .at .own-text o .tops
+
+pub tops-in-order : {x : Text} {m : Arrays} {f : FrameRecord} {s : WalkState} → Stated x m f s → s .middle ≤ s .top
+tops-in-order g = queue-base (g .at .held .copies)
 
 pub origin-small : {x : Text} {m : Arrays} {f : FrameRecord} {s : WalkState} → Stated x m f s → s .origin < longestTerm
 origin-small g = omega (arith, origin-bound (g .at), positive (g .body))

@@ -302,6 +302,21 @@ pub data DueAs (s : WalkState) : Bool → Type 0 where
   due-first : s .own ≡ true → s .checked ≡ false → DueAs s true
   not-due : (s .own ≡ true → s .checked ≡ true) → DueAs s false
 
+-- The rule for a state whose B begins with the byte b, by its number.
+pub data RuleAt (s : WalkState) (b : ℕ) : ℕ → Type 0 where
+  inside-first : s .own ≡ true → s .checked ≡ false → 0xfe ≤ b → RuleAt s b 0
+  rule-i : s .own ≡ true → b ≡ 0 → RuleAt s b 1
+  rule-iii : s .own ≡ true → s .checked ≡ true → b ≡ 0xfe → RuleAt s b 3
+  rule-iv : s .own ≡ true → s .checked ≡ true → 0xfe < b → s .bottom ≡ s .top → RuleAt s b 4
+  rule-v : s .own ≡ true → s .checked ≡ true → 0xfe < b → (s .bottom ≡ s .top → ⊥) → RuleAt s b 5
+  rule-vi : s .own ≡ false → b ≡ 0 → RuleAt s b 6
+  rule-vii : s .own ≡ true → 0 < b → b < 0xfe → RuleAt s b 7
+  rule-viii : s .own ≡ false → 0 < b → b < 0xfe → RuleAt s b 8
+  rule-ix : s .own ≡ false → b ≡ 0xfe → RuleAt s b 9
+  rule-x : s .own ≡ false → 0xfe < b → s .bottom ≡ s .top → RuleAt s b 10
+  rule-xi : s .own ≡ false → 0xfe < b → (s .bottom ≡ s .top → ⊥) → s .middle ≡ s .top → RuleAt s b 11
+  rule-xii : s .own ≡ false → 0xfe < b → (s .middle ≡ s .top → ⊥) → RuleAt s b 12
+
 -- (i) and (vi).
 pub data TauTurn (q : List ℕ) (s : WalkState) : Turned → Type 0 where
   tau-never : s .middle < s .top → TauTurn q s (answering never (s .place) 0 0 0 s)

@@ -1,5 +1,6 @@
 // The walk of the check of a file: the one-pass rules (001, section 5.8) on the bytes of the term and of its copies. The frame's bytes
-// stand in a work array; one state is a struct of numbers, and one function takes it to the next.
+// stand in a work array; one state is a struct of numbers, and one function takes it to the next. `rule_of` tells the rules apart, in the
+// paper's order and by the paper's numbers; what they do stands after it in the same order (docs/RULES.md).
 ghost use mathlib.Core.Path.{_≡_};
 ghost use mathlib.Core.Bool.{true, false, cond};
 ghost use mathlib.Core.List.{List};
@@ -11,7 +12,7 @@ ghost use Rattle.frames.specs.Stored.{recordOf};
 ghost use Rattle.compare.specs.Sides.{Buffers};
 ghost use Rattle.waiting.specs.Writing.{PutAsked, Puts};
 ghost use Rattle.walk.specs.State.{textOf, arraysOf, Stated};
-ghost use Rattle.walk.specs.Contracts.{within, answering, going, pairing, completedOf, pastOf, metOf, typedOf, startOf, innerOf, checkedOf, TestAs, DueAs, TauTurn, WaitReady, PutAside, WaitTurn, SizesKnown, DepthsKnown, AbstractorAt, Wagons, Known, Turns, InnerAt, Checks, Walkable, WholeAnswer, WalkAnswer};
+ghost use Rattle.walk.specs.Contracts.{within, answering, going, pairing, completedOf, pastOf, metOf, typedOf, startOf, innerOf, checkedOf, TestAs, DueAs, RuleAt, TauTurn, WaitReady, PutAside, WaitTurn, SizesKnown, DepthsKnown, AbstractorAt, Wagons, Known, Turns, InnerAt, Checks, Walkable, WholeAnswer, WalkAnswer};
 use code::numbers::ACCEPTED;
 use code::numbers::LONGEST_STATE;
 use code::numbers::LONGEST_TERM;
@@ -65,11 +66,9 @@ pub struct Walked {
     pub third: usize,
 }
 
-// A state (R, W, B) of the term's own text or (R, W, Y, B) of copied text, but for its frame R. The order of the fields was tried: where
-// the three bools stand, LLVM's code differs by up to a tenth (docs/BENCHMARK.md).
+// A state (R, W, B) of the term's own text or (R, W, Y, B) of copied text, but for its frame R. The order of the fields was tried: by it
+// alone LLVM's code differs by up to a tenth (docs/BENCHMARK.md).
 pub struct WalkState {
-    // what stands inside B's first applicator or abstractor has been checked
-    pub checked: bool,
     // B is the term's own text
     pub own: bool,
     // where B begins in the term; in copied text, the variable that it stems from
@@ -78,9 +77,9 @@ pub struct WalkState {
     pub from: usize,
     // the place of the term's text that B is a copy of
     pub origin: usize,
-    // B is seen lifted by `shift` above `cut`
-    pub shift: usize,
+    // B is seen lifted above `cut` by `shift`
     pub cut: usize,
+    pub shift: usize,
     // W stands in the list from `bottom` up to `middle`, and Y above it up to `top`
     pub bottom: usize,
     pub middle: usize,
@@ -91,6 +90,8 @@ pub struct WalkState {
     // the next group, and the comparisons completed
     pub next: usize,
     pub comparisons: usize,
+    // what stands inside B's first applicator or abstractor has been checked
+    pub checked: bool,
     // B's bytes stand in the term; else in the work array
     pub in_term: bool,
 }
@@ -227,58 +228,58 @@ fn symbol(t: &[u8], work: &Work, s: WalkState) -> u8
     work[from]
 }
 
-// (i) and (vi)
-fn at_tau(list: &[u16], s: WalkState) -> Turned
-    requires { ⌜ (s .bottom ≤ s .top) × (6 * s .top ≤ length (now list)) ⌝ }
-    ensures { λ r. ⌜ TauTurn (now (list .entry)) s r ⌝ }
+// The number of the rule for a state whose B begins with the byte b. It is 0 while what stands inside the first wagon of the term's own text
+// is to be checked: (iii), (iv) and (v) ask for that first.
+fn rule_of(s: WalkState, b: u8) -> u32
+    ensures { λ r. ⌜ RuleAt s b r ⌝ }
 {
-    if s.middle < s.top {
-        return answer(NEVER, s.place, 0, 0, 0, s);
+    if s.own {
+        // (i)
+        if b == 0 {
+            return 1;
+        }
+        if b >= 0xfe {
+            if due(s) {
+                return 0;
+            }
+            // (iii)
+            if b == 0xfe {
+                return 3;
+            }
+            // (iv)
+            if s.bottom == s.top {
+                return 4;
+            }
+            // (v)
+            return 5;
+        }
     }
+    // (vi)
+    if b == 0 {
+        return 6;
+    }
+    // (vii)
+    if s.own {
+        return 7;
+    }
+    // (viii)
+    if b < 0xfe {
+        return 8;
+    }
+    // (ix)
+    if b == 0xfe {
+        return 9;
+    }
+    // (x)
     if s.bottom == s.top {
-        return answer(ACCEPTED, 0, 0, 0, 0, s);
+        return 10;
     }
-    let v = slot_at(list, s.top - 1);
-    answer(STILL_WAITING, v.place, s.top - s.bottom, 0, 0, s)
-}
-
-// The index b, seen lifted by n above c.
-fn seen_index(b: u8, n: usize, c: usize) -> usize
-    requires { ⌜ n ≤ mostAbstractors ⌝ }
-    ensures { λ r. ⌜ r ≡ liftIndex n c b ⌝ }
-{
-    let k = wide(b);
-    if k <= c {
-        return k;
+    // (xi)
+    if s.middle == s.top {
+        return 11;
     }
-    k + n
-}
-
-// (vii)
-fn meet(s: WalkState) -> Turned
-    ensures { λ r. ⌜ r ≡ going 1 (metOf s) false 0 ⌝ }
-{
-    let mut z = s;
-    z.own = false;
-    z.checked = false;
-    onward(STATE, z, false, 0)
-}
-
-// (viii)
-fn replace(domains: &Starts, origins: &Starts, len: usize, s: WalkState, k: usize) -> Turned
-    requires { ⌜ (1 ≤ k) × (k ≤ len) × (len ≤ mostAbstractors) ⌝ }
-    ensures { λ r. ⌜ r ≡ going 1 (typedOf s k (getD (now (domains .entry)) (len - k) 0) (getD (now (origins .entry)) (len - k) 0)) false 0 ⌝ }
-{
-    let i = len - k;
-    let mut z = s;
-    z.own = false;
-    z.checked = false;
-    z.in_term = false;
-    z.from = wide16(domains[i]);
-    z.origin = wide16(origins[i]);
-    z.shift = k;
-    z.cut = 0;
-    onward(STATE, z, false, 0)
+    // (xii)
+    12
 }
 
 // The state past the first wagon, whose term has n bytes.
@@ -312,6 +313,21 @@ fn past(
     z
 }
 
+// τ: (i) and (vi).
+fn at_tau(list: &[u16], s: WalkState) -> Turned
+    requires { ⌜ (s .bottom ≤ s .top) × (6 * s .top ≤ length (now list)) ⌝ }
+    ensures { λ r. ⌜ TauTurn (now (list .entry)) s r ⌝ }
+{
+    if s.middle < s.top {
+        return answer(NEVER, s.place, 0, 0, 0, s);
+    }
+    if s.bottom == s.top {
+        return answer(ACCEPTED, 0, 0, 0, 0, s);
+    }
+    let v = slot_at(list, s.top - 1);
+    answer(STILL_WAITING, v.place, s.top - s.bottom, 0, 0, s)
+}
+
 // Where the bytes of ⟨K⟩ stand in the work array while it waits: those of copied text where they stand, and those of the term's own text,
 // whose K has n bytes, at the array's end, before those that wait already.
 fn put_aside(t: &[u8], work: &mut Work, list: &[u16], s: WalkState, n: usize) -> usize
@@ -326,7 +342,7 @@ fn put_aside(t: &[u8], work: &mut Work, list: &[u16], s: WalkState, n: usize) ->
     at
 }
 
-// (iii) and (ix): ⟨K⟩, whose K has n bytes and the scope y, waits.
+// ⟨K⟩, whose K has n bytes and the scope y, waits: (iii) and (ix).
 fn wait(
     t: &[u8],
     work: &mut Work,
@@ -433,49 +449,6 @@ fn enter_alone(
     onward(STATE, z, true, b)
 }
 
-// [U], whose U has n bytes, takes the last of Y: (xii).
-fn enter_copied(
-    t: &[u8],
-    sizes: &[u16],
-    depths: &[u8],
-    work: &mut Work,
-    list: &[u16],
-    domains: &mut Starts,
-    origins: &mut Starts,
-    reach: &mut usize,
-    len: usize,
-    end: usize,
-    s: WalkState,
-    n: usize,
-) -> Turned
-    requires { ⌜ SizesKnown (now t) (now sizes) × (s .middle < s .top) × DepthsKnown (now t) (now depths) × ((file starts : List ℕ) × AbstractorAt (textOf file (now t)) (arraysOf (now work) (now list) (now domains) (now origins) (now reach)) (recordOf starts len end) s n) ⌝ }
-    ensures { λ r. ⌜ ((file starts a b : List ℕ) → AbstractorAt (textOf file (now (t .entry))) (arraysOf (now (work .entry)) (now (list .entry)) (now (domains .entry)) (now (origins .entry)) (now (reach .entry))) (recordOf starts len end) s n → Wagons (textOf file (now (t .entry))) (arraysOf (now (work .entry)) (now (list .entry)) (now (domains .entry)) (now (origins .entry)) (now (reach .entry))) (arraysOf (now (work .exit)) (now (list .entry)) (now (domains .exit)) (now (origins .exit)) (now (reach .exit))) (recordOf starts len end) s a b r) ⌝ }
-{
-    let top = s.top - 1;
-    let v = slot_at(list, top);
-    let o = v.place + 1;
-    let k = wide16(sizes[o]);
-    let at = v.at + 1;
-    let a = put(
-        t,
-        depths,
-        work,
-        0xfe,
-        false,
-        at,
-        at + k,
-        o,
-        end,
-        v.shift,
-        v.cut,
-        len - v.depth,
-    );
-    let b = enter_domain(t, depths, work, domains, origins, len, a, s, n);
-    stretch(reach, b);
-    let z = past(s, n, s.cut + 1, s.middle, top, s.size - (1 + k), v.scope);
-    onward(STATE, z, true, b)
-}
-
 // Whether a frame was written past `at`.
 fn is_lost(at: usize, reach: usize) -> bool
     ensures { λ r. ⌜ (r ≡ false → reach ≤ at) ⌝ }
@@ -537,6 +510,88 @@ fn enter_waiting(
     pair(z, v.place, a, e)
 }
 
+// A variable of the term's own text: (vii).
+fn meet(s: WalkState) -> Turned
+    ensures { λ r. ⌜ r ≡ going 1 (metOf s) false 0 ⌝ }
+{
+    let mut z = s;
+    z.own = false;
+    z.checked = false;
+    onward(STATE, z, false, 0)
+}
+
+// The index b, seen lifted by n above c.
+fn seen_index(b: u8, n: usize, c: usize) -> usize
+    requires { ⌜ n ≤ mostAbstractors ⌝ }
+    ensures { λ r. ⌜ r ≡ liftIndex n c b ⌝ }
+{
+    let k = wide(b);
+    if k <= c {
+        return k;
+    }
+    k + n
+}
+
+// A variable of copied text, whose index is k: (viii).
+fn replace(domains: &Starts, origins: &Starts, len: usize, s: WalkState, k: usize) -> Turned
+    requires { ⌜ (1 ≤ k) × (k ≤ len) × (len ≤ mostAbstractors) ⌝ }
+    ensures { λ r. ⌜ r ≡ going 1 (typedOf s k (getD (now (domains .entry)) (len - k) 0) (getD (now (origins .entry)) (len - k) 0)) false 0 ⌝ }
+{
+    let i = len - k;
+    let mut z = s;
+    z.own = false;
+    z.checked = false;
+    z.in_term = false;
+    z.from = wide16(domains[i]);
+    z.origin = wide16(origins[i]);
+    z.shift = k;
+    z.cut = 0;
+    onward(STATE, z, false, 0)
+}
+
+// [U], whose U has n bytes, takes the last of Y: (xii).
+fn enter_copied(
+    t: &[u8],
+    sizes: &[u16],
+    depths: &[u8],
+    work: &mut Work,
+    list: &[u16],
+    domains: &mut Starts,
+    origins: &mut Starts,
+    reach: &mut usize,
+    len: usize,
+    end: usize,
+    s: WalkState,
+    n: usize,
+) -> Turned
+    requires { ⌜ SizesKnown (now t) (now sizes) × (s .middle < s .top) × DepthsKnown (now t) (now depths) × ((file starts : List ℕ) × AbstractorAt (textOf file (now t)) (arraysOf (now work) (now list) (now domains) (now origins) (now reach)) (recordOf starts len end) s n) ⌝ }
+    ensures { λ r. ⌜ ((file starts a b : List ℕ) → AbstractorAt (textOf file (now (t .entry))) (arraysOf (now (work .entry)) (now (list .entry)) (now (domains .entry)) (now (origins .entry)) (now (reach .entry))) (recordOf starts len end) s n → Wagons (textOf file (now (t .entry))) (arraysOf (now (work .entry)) (now (list .entry)) (now (domains .entry)) (now (origins .entry)) (now (reach .entry))) (arraysOf (now (work .exit)) (now (list .entry)) (now (domains .exit)) (now (origins .exit)) (now (reach .exit))) (recordOf starts len end) s a b r) ⌝ }
+{
+    let top = s.top - 1;
+    let v = slot_at(list, top);
+    let o = v.place + 1;
+    let k = wide16(sizes[o]);
+    let at = v.at + 1;
+    let a = put(
+        t,
+        depths,
+        work,
+        0xfe,
+        false,
+        at,
+        at + k,
+        o,
+        end,
+        v.shift,
+        v.cut,
+        len - v.depth,
+    );
+    let b = enter_domain(t, depths, work, domains, origins, len, a, s, n);
+    stretch(reach, b);
+    let z = past(s, n, s.cut + 1, s.middle, top, s.size - (1 + k), v.scope);
+    onward(STATE, z, true, b)
+}
+
 // What stands inside the first wagon has been checked.
 fn checked(s: WalkState, next: usize, comparisons: usize) -> WalkState
     ensures { λ r. ⌜ r ≡ checkedOf s next comparisons ⌝ }
@@ -582,30 +637,26 @@ fn turn(
         return answer(OUTGROWN, s.place, 0, 0, 0, s);
     }
     let b = symbol(t, work, s);
-    if b == 0 {
-        return at_tau(list, s);
-    }
-    if b < 0xfe {
-        if s.own {
-            return meet(s);
-        }
-        let k = seen_index(b, s.shift, s.cut);
-        return replace(domains, origins, len, s, k);
-    }
-    if due(s) {
+    let rule = rule_of(s, b);
+    if rule == 0 {
         return onward(INNER, s, false, 0);
     }
+    if rule == 1 || rule == 6 {
+        return at_tau(list, s);
+    }
     let o = s.origin + 1;
-    let n = wide16(sizes[o]);
-    if b == 0xfe {
+    if rule == 3 || rule == 9 {
+        let n = wide16(sizes[o]);
         let y = wide16(scopes[o]);
         return wait(t, work, list, len, s, n, y);
     }
-    if s.bottom == s.top {
+    if rule == 4 || rule == 10 {
+        let n = wide16(sizes[o]);
         return enter_alone(t, depths, work, domains, origins, reach, len, end, s, n);
     }
-    if s.middle < s.top {
-        return enter_copied(
+    if rule == 5 || rule == 11 {
+        let n = wide16(sizes[o]);
+        return enter_waiting(
             t,
             sizes,
             depths,
@@ -620,7 +671,15 @@ fn turn(
             n,
         );
     }
-    enter_waiting(
+    if rule == 7 {
+        return meet(s);
+    }
+    if rule == 8 {
+        let k = seen_index(b, s.shift, s.cut);
+        return replace(domains, origins, len, s, k);
+    }
+    let n = wide16(sizes[o]);
+    enter_copied(
         t,
         sizes,
         depths,
