@@ -13,10 +13,11 @@ use Rattle.calculus.specs.Terms.{Term, liftIndex}
 use Rattle.calculus.proofs.Lift.{lo, hi, cmp}
 use Rattle.code.specs.Limits.{longestTerm}
 use Rattle.code.specs.Claims.{Stands}
+use Rattle.code.proofs.Parts.{stands-start, Head, head-tau, head-var, head-app, head-abs, head}
 use Rattle.indices.specs.Stack.{pending, bodyScope, after, Advanced}
 use Rattle.letters.specs.Letters.{letter}
 use Rattle.letters.specs.Contracts.{UpTo, Readable, ReadAs, read-all, Reads}
-use Rattle.letters.proofs.Reading.{Stored, terminal-stored, operator-stored, Reading, reading-start, reading-ready, reading-next, reading-high}
+use Rattle.letters.proofs.Reading.{Stored, terminal-stored, operator-stored, Reading, reading-start, reading-ready, reading-next, reading-high, reading-length, reading-end}
 
 -- ---- The largest byte.
 pub up-to-next : {s : List ℕ} {from i b x : ℕ} → UpTo s from i b → x ≡ max b (getD s i 0) → UpTo s from (i + 1) x
@@ -95,3 +96,24 @@ module _ {s : List ℕ} {from e k d h room : ℕ} {out : List ℕ} {at : ℕ} wh
     where
       go : {t : Term} → ReadAs k d h 0 out out′ at t true → ReadAs k d h room out out′ at t true
       go (read-all o l) = read-all o (omega arith)
+
+-- ---- A term of one byte is a terminal.
+pub one-byte : {s : List ℕ} {from e : ℕ} {t : Term} → e - from ≡ 1 → Stands s from e t → getD s from 0 < 254
+one-byte {s} {from} {e} l a = go (head a)
+  where
+    go : {t : Term} → Head s from e t → getD s from 0 < 254
+    go (head-tau b q) = omega arith
+    go (head-var b x y q) = omega arith
+    go (head-app b f g) = absurd (omega (arith, stands-start f, stands-start g))
+    go (head-abs b f g) = absurd (omega (arith, stands-start f, stands-start g))
+
+pub reads-one : {s out out′ : List ℕ} {from e k d h room at x y z : ℕ} → Readable s from e k d h room out at → e - from ≡ 1 → x ≡ getD s from 0 → y ≡ liftIndex k 0 x → z ≡ letter y d h → out′ ≡ set out at z
+    → Reads s from e k d h room out out′ at true
+unfolding letter
+reads-one {s} {out} {out′} {from} {e} {k} {d} {h} {at = at} r l u v w o = reads-flat record {
+  all = λ t a. reading-end (one t a .reading) (omega arith);
+  same-length = reading-length (one _ (r .standing .stands) .reading);
+}
+  where
+    one : (t : Term) → Stands s from e t → Flat s out out′ from e k d h at (d * 1024 + (h + 1) * 1048576 - 1048576) (from + 1) (at + 1) t
+    one t a = terminal-next (flat-start a (r .standing .short)) (omega arith) (one-byte l a) u v (omega arith) o refl

@@ -190,6 +190,12 @@ pub fn read(
     requires { ⌜ Readable (now s) from to k d h room (now out) at ⌝ }
     ensures { λ r. ⌜ Reads (now (s .entry)) from to k d h room (now (out .entry)) (now (out .exit)) at r ⌝ }
 {
+    // one byte is a terminal
+    if to - from == 1 {
+        let x = index_of(s[from]);
+        out[at] = letter_of(lifted_index(x, 0, k), d, h);
+        return true;
+    }
     if largest_byte(s, from, to) < 0xff {
         read_flat(s, from, to, k, d, h, out, at);
         return true;
