@@ -2,6 +2,8 @@
 //! checking with supplied reductions") with document 02's kind 3, printing,
 //! counting, couples and sets, written for clarity: terms are trees that keep
 //! their size, the lists are lifted literally and every state is measured anew.
+//! The cases of `walk` and `plain` follow the rules of 001, 5.8 and 5.3, each
+//! under its number.
 
 pub mod counts;
 pub mod file;
@@ -10,10 +12,14 @@ pub mod gen;
 pub mod mistakes;
 pub mod normaliser;
 pub mod page;
+pub mod plain;
 pub mod refusal;
 pub mod rng;
+pub mod rules;
+pub mod run;
 pub mod set;
 pub mod stack;
+pub mod state;
 pub mod term;
 pub mod walk;
 
@@ -27,7 +33,7 @@ use set::read_set;
 use stack::on_large_stack;
 use std::ops::Range;
 use term::{read_term, Term, MAX_TERM_BYTES};
-use walk::{walk_by, Apply};
+use walk::{walk_by, Apply, Watch};
 
 #[derive(Clone, Copy, PartialEq, Eq, Debug)]
 pub struct TermAnswer {
@@ -163,12 +169,12 @@ pub fn apply_step_by(
             kind,
             place: usize::from(place),
         };
-        answer(read_term(bytes).and_then(|term| {
-            match apply(&Frame::new(), &term, step) {
+        answer(
+            read_term(bytes).and_then(|term| match apply(&Frame::new(), &term, step) {
                 None => refuse(BAD_STEP, 0),
                 Some(result) => write_result(&result, buffer),
-            }
-        }))
+            }),
+        )
     })
 }
 
@@ -218,40 +224,45 @@ pub fn check(bytes: &[u8]) -> CheckAnswer {
 
 /// Checks a file with the steps of `apply`.
 pub fn check_by(apply: Apply, bytes: &[u8]) -> CheckAnswer {
-    on_large_stack(|| {
-        let (fields, term) = match read_file(bytes) {
-            Ok(read) => read,
-            Err(Refusal { number, place }) => {
-                return CheckAnswer {
-                    number,
-                    place,
-                    comparisons: 0,
-                    degree: 0,
-                };
-            }
-        };
-        let degree = term.degree();
-        let mut unused = fields.groups.iter();
-        let (comparisons, end) = walk_by(apply, &term, &mut |_, _, _| unused.next().cloned());
-        let end = match (end, unused.next()) {
-            (Ok(()), Some(group)) => refuse(GROUPS_LEFT, group.head),
-            (end, _) => end,
-        };
-        match end {
-            Ok(()) => CheckAnswer {
-                number: 0,
-                place: 0,
-                comparisons,
-                degree,
-            },
-            Err(Refusal { number, place }) => CheckAnswer {
+    on_large_stack(|| check_watched(apply, bytes, None))
+}
+
+/// The same on the caller's own stack, which should be a large one, with the
+/// walk watched if there is a watcher.
+pub fn check_watched(apply: Apply, bytes: &[u8], watch: Option<&mut Watch>) -> CheckAnswer {
+    let (fields, term) = match read_file(bytes) {
+        Ok(read) => read,
+        Err(Refusal { number, place }) => {
+            return CheckAnswer {
                 number,
                 place,
-                comparisons,
-                degree,
-            },
+                comparisons: 0,
+                degree: 0,
+            };
         }
-    })
+    };
+    let degree = term.degree();
+    let mut unused = fields.groups.iter();
+    let mut supply = |_: &Frame, _: &Term, _: &Term| unused.next().cloned();
+    let (comparisons, end) = walk_by(apply, &term, &mut supply, watch);
+    let end = match (end, unused.next()) {
+        (Ok(()), Some(group)) => refuse(GROUPS_LEFT, group.head),
+        (end, _) => end,
+    };
+    match end {
+        Ok(()) => CheckAnswer {
+            number: 0,
+            place: 0,
+            comparisons,
+            degree,
+        },
+        Err(Refusal { number, place }) => CheckAnswer {
+            number,
+            place,
+            comparisons,
+            degree,
+        },
+    }
 }
 
 /// Checks a set: its heads, then its files up to the first that is refused.

@@ -44,6 +44,11 @@ impl Item {
     pub fn parts(&self) -> (&Term, &Term) {
         (&self.inner, &self.rest)
     }
+
+    /// The same as terms of their own.
+    pub fn parts_cloned(&self) -> (Term, Term) {
+        (self.inner.clone(), self.rest.clone())
+    }
 }
 
 pub fn app(k: Term, rest: Term) -> Term {

@@ -4,19 +4,11 @@ use crate::file::Group;
 use crate::frame::{apply, body_outgrown, type_of, type_of_variable, Entry, Frame, Step};
 use crate::mistakes::{made, Mistake};
 use crate::refusal::*;
+use crate::state::{Rule, State, Text::*, Waiting};
 use crate::term::{app, Term, Term::*, MAX_SCOPE};
 
 /// R, W, Y and B together are no larger.
 pub const MAX_STATE_BYTES: usize = 8192;
-
-/// An applicator of the term that waits for its abstractor.
-#[derive(Clone, Debug)]
-struct Waiting {
-    /// Its place in the term.
-    place: usize,
-    /// Its K, lifted to stand right after the frame.
-    k: Term,
-}
 
 /// Gives the group for a comparison: told the frame, the type of K and U.
 pub type Supply<'a> = dyn FnMut(&Frame, &Term, &Term) -> Option<Group> + 'a;
@@ -25,125 +17,169 @@ pub type Supply<'a> = dyn FnMut(&Frame, &Term, &Term) -> Option<Group> + 'a;
 /// in its place.
 pub type Apply = fn(&Frame, &Term, Step) -> Option<Term>;
 
+/// What a watcher of the walk is shown.
+pub enum Event<'a> {
+    /// A state, before its rule is applied. An outgrown state has no rule, nor
+    /// has τ with something waiting.
+    State {
+        rule: Option<Rule>,
+        state: &'a State<'a>,
+    },
+    /// A comparison at its end: the two bodies reached, identical or not, or
+    /// why it came to an end before.
+    Comparison {
+        /// Of the applicator.
+        place: usize,
+        r: &'a Frame,
+        reached: &'a Result<(Term, Term), Refusal>,
+    },
+}
+
+pub type Watch<'a> = dyn FnMut(Event) + 'a;
+
 /// Walks over a closed term from empty R and W. Gives the number of
 /// comparisons completed and how the walk ended.
 pub fn walk(term: &Term, supply: &mut Supply) -> (usize, Result<(), Refusal>) {
-    walk_by(apply, term, supply)
+    walk_by(apply, term, supply, None)
 }
 
-/// The walk with the steps of `apply`.
-pub fn walk_by(apply: Apply, term: &Term, supply: &mut Supply) -> (usize, Result<(), Refusal>) {
+/// The walk with the steps of `apply`, and watched if there is a watcher.
+pub fn walk_by(
+    apply: Apply,
+    term: &Term,
+    supply: &mut Supply,
+    watch: Option<&mut Watch>,
+) -> (usize, Result<(), Refusal>) {
     let mut walk = Walk {
         apply,
         supply,
+        watch,
         comparisons: 0,
     };
-    let end = walk.own_text(&mut Vec::new(), 0, term);
+    let end = walk.holds(&mut Frame::new(), 0, term);
     (walk.comparisons, end)
 }
 
-struct Walk<'a, 'b> {
+struct Walk<'a, 'b, 'c> {
     apply: Apply,
     supply: &'a mut Supply<'b>,
+    watch: Option<&'a mut Watch<'c>>,
     comparisons: usize,
 }
 
-impl Walk<'_, '_> {
-    /// The rules for the term's own text: `b`, with its first byte at `at` in
-    /// the term, after `r`, with nothing waiting. Leaves the entries of `r`
-    /// that it found.
-    fn own_text(&mut self, r: &mut Frame, mut at: usize, mut b: &Term) -> Result<(), Refusal> {
+impl Walk<'_, '_, '_> {
+    /// Whether (R, W, B) holds, W being empty and B a part of the term's own
+    /// text with its first byte at `place`. Leaves the entries of R that it
+    /// found. The rules are those of 001, 5.3 and 5.8, in the paper's order.
+    fn holds(&mut self, r: &mut Frame, place: usize, b: &Term) -> Result<(), Refusal> {
         let found = r.len();
-        let mut w: Vec<Waiting> = Vec::new();
+        let mut state = State::new(Own, place, r, b.clone());
         loop {
-            if made(Mistake::OutgrownAfterTheRule) && *b == Tau {
-                end_at_tau(&w)?;
+            if state_outgrown(&state) {
+                self.show(None, &state);
+                let at_tau = state.b == Tau && !state.w.is_empty();
+                if made(Mistake::OutgrownAfterTheRule) && at_tau {
+                    return still_waiting(&state.w);
+                }
+                return refuse(OUTGROWN, state.place);
             }
-            if state_outgrown(r, &w, &[], b) {
-                return refuse(OUTGROWN, at);
-            }
-            match b {
-                Tau => {
-                    end_at_tau(&w)?;
+            let y = match made(Mistake::TakesFromWFirst) && !state.w.is_empty() {
+                false => &state.y[..],
+                true => &[],
+            };
+            match (state.text, &state.b, &state.w[..], y) {
+                // (i) τ, nothing waits.
+                (Own, Tau, [], _) => {
+                    self.show(Some(Rule::I), &state);
                     break;
                 }
-                Var(index) => {
-                    self.copied_text(r, w, at, *index)?;
+                // (iii) ⟨K⟩B: K, then B with ⟨K⟩ in W.
+                (Own, App(item), _, _) => {
+                    self.show(Some(Rule::Iii), &state);
+                    let (k, rest) = item.parts_cloned();
+                    self.holds(state.r, state.place_inside(), &k)?;
+                    state.join_w(k, rest);
+                }
+                // (iv) [U]B, nothing waits: U, then B after [U].
+                (Own, Abs(item), [], _) => {
+                    self.show(Some(Rule::Iv), &state);
+                    let (u, rest) = item.parts_cloned();
+                    self.holds(state.r, state.place_inside(), &u)?;
+                    state.join_r(Entry::Single(u), rest);
+                }
+                // (v) [U]B, ⟨K⟩ waits: U, same(R,K,U), then B after ⟨K⟩[U].
+                (Own, Abs(item), [.., _], _) => {
+                    self.show(Some(Rule::V), &state);
+                    let (u, rest) = item.parts_cloned();
+                    self.holds(state.r, state.place_inside(), &u)?;
+                    self.compare_and_pair(&mut state, u, rest)?;
+                }
+                // (vi) Copied τ, nothing waits.
+                (Copied, Tau, [], []) => {
+                    self.show(Some(Rule::Vi), &state);
                     break;
                 }
-                App(item) => {
-                    let (k, rest) = item.parts();
-                    self.own_text(r, at + 1, k)?;
-                    w.push(Waiting {
-                        place: at,
-                        k: k.clone(),
-                    });
-                    at += 1 + k.size();
-                    b = rest;
+                // (vii) A variable: from here on the text is copied.
+                (Own, Var(_), _, _) => {
+                    self.show(Some(Rule::Vii), &state);
+                    state.text = Copied;
                 }
-                Abs(item) => {
-                    let (u, rest) = item.parts();
-                    self.own_text(r, at + 1, u)?;
-                    match w.pop() {
-                        None => r.push(Entry::Single(u.clone())),
-                        Some(last) => {
-                            self.compare(r, &w, &last, u)?;
-                            r.push(Entry::Pair(last.k, u.clone()));
-                        }
-                    }
-                    lift_waiting(&mut w);
-                    at += 1 + u.size();
-                    b = rest;
+                // (viii) A variable in copied text: its type.
+                (Copied, Var(index), _, _) => {
+                    self.show(Some(Rule::Viii), &state);
+                    state.b = type_of_variable(state.r, *index);
+                }
+                // (ix) Copied ⟨K⟩B: B with ⟨K⟩ in Y.
+                (Copied, App(item), _, _) => {
+                    self.show(Some(Rule::Ix), &state);
+                    let (k, rest) = item.parts_cloned();
+                    state.join_y(k, rest);
+                }
+                // (x) Copied [U]B, nothing waits: B after [U].
+                (Copied, Abs(item), [], []) => {
+                    self.show(Some(Rule::X), &state);
+                    let (u, rest) = item.parts_cloned();
+                    state.join_r(Entry::Single(u), rest);
+                }
+                // (xi) Copied [U]B, ⟨K⟩ waits in W only: same(R,K,U), B after ⟨K⟩[U].
+                (Copied, Abs(item), [.., _], []) => {
+                    self.show(Some(Rule::Xi), &state);
+                    let (u, rest) = item.parts_cloned();
+                    self.compare_and_pair(&mut state, u, rest)?;
+                }
+                // (xii) Copied [U]B, ⟨K⟩ waits in Y: B after ⟨K⟩[U].
+                (Copied, Abs(item), _, [.., _]) => {
+                    self.show(Some(Rule::Xii), &state);
+                    let (u, rest) = item.parts_cloned();
+                    let k = state.y.pop().expect("Y ends in ⟨K⟩");
+                    state.join_r(Entry::Pair(k, u), rest);
+                }
+                // No rule: τ, something waits.
+                (_, Tau, _, _) => {
+                    self.show(None, &state);
+                    assert!(state.y.is_empty(), "Y is empty at every τ of a check");
+                    return still_waiting(&state.w);
                 }
             }
         }
-        r.truncate(found);
+        state.r.truncate(found);
         Ok(())
     }
 
-    /// The rules for copied text: from the variable `index` of the term's own
-    /// text at `place`.
-    fn copied_text(
-        &mut self,
-        r: &mut Frame,
-        mut w: Vec<Waiting>,
-        place: usize,
-        index: u64,
-    ) -> Result<(), Refusal> {
-        let mut y: Vec<Term> = Vec::new();
-        let mut b = type_of_variable(r, index);
-        loop {
-            if state_outgrown(r, &w, &y, &b) {
-                return refuse(OUTGROWN, place);
-            }
-            match &b {
-                Tau => {
-                    assert!(y.is_empty(), "Y is empty at every τ of a check");
-                    return end_at_tau(&w);
-                }
-                Var(index) => b = type_of_variable(r, *index),
-                App(item) => {
-                    let (k, rest) = item.parts();
-                    y.push(k.clone());
-                    b = rest.clone();
-                }
-                Abs(item) => {
-                    let (u, rest) = item.parts();
-                    let from_w = made(Mistake::TakesFromWFirst) && !w.is_empty();
-                    if let Some(k) = if from_w { None } else { y.pop() } {
-                        r.push(Entry::Pair(k, u.clone()));
-                    } else if let Some(last) = w.pop() {
-                        self.compare(r, &w, &last, u)?;
-                        r.push(Entry::Pair(last.k, u.clone()));
-                    } else {
-                        r.push(Entry::Single(u.clone()));
-                    }
-                    lift_waiting(&mut w);
-                    y = y.iter().map(|k| k.lift(1)).collect();
-                    b = rest.clone();
-                }
-            }
+    /// Shows the state to the watcher.
+    fn show(&mut self, rule: Option<Rule>, state: &State) {
+        if let Some(watch) = &mut self.watch {
+            watch(Event::State { rule, state });
         }
+    }
+
+    /// Passes the [U] that B begins with by `same(R,K,U)`, ⟨K⟩ being the last
+    /// of W: the two join R.
+    fn compare_and_pair(&mut self, state: &mut State, u: Term, rest: Term) -> Result<(), Refusal> {
+        let last = state.w.pop().expect("W ends in ⟨K⟩");
+        self.compare(state.r, &state.w, &last, &u)?;
+        state.join_r(Entry::Pair(last.k, u), rest);
+        Ok(())
     }
 
     /// `same(R,K,U)` by the next group, with `w` waiting before the applicator.
@@ -154,6 +190,29 @@ impl Walk<'_, '_> {
         applicator: &Waiting,
         u: &Term,
     ) -> Result<(), Refusal> {
+        let place = applicator.place;
+        let reached = self.reach(r, w, applicator, u);
+        if let Some(watch) = &mut self.watch {
+            let reached = &reached;
+            watch(Event::Comparison { place, r, reached });
+        }
+        let (left, right) = reached?;
+        if left != right {
+            return refuse(BODIES_DIFFER, place);
+        }
+        self.comparisons += 1;
+        Ok(())
+    }
+
+    /// The bodies that the next group's steps reach from the type of K and
+    /// from U.
+    fn reach(
+        &mut self,
+        r: &Frame,
+        w: &[Waiting],
+        applicator: &Waiting,
+        u: &Term,
+    ) -> Result<(Term, Term), Refusal> {
         let place = applicator.place;
         let Some(type_of_k) = type_of(r, &applicator.k) else {
             return refuse(NO_TYPE, place);
@@ -166,11 +225,7 @@ impl Walk<'_, '_> {
         }
         let left = self.replay(r, w, type_of_k, &group.left, place)?;
         let right = self.replay(r, w, u.clone(), &group.right, place)?;
-        if left != right {
-            return refuse(BODIES_DIFFER, place);
-        }
-        self.comparisons += 1;
-        Ok(())
+        Ok((left, right))
     }
 
     /// The body after all the steps.
@@ -219,29 +274,19 @@ fn after_waiting(apply: Apply, r: &Frame, w: &[Waiting], body: &Term, step: Step
     Some(stepped)
 }
 
-fn end_at_tau(w: &[Waiting]) -> Result<(), Refusal> {
+/// The refusal of τ with these waiting.
+fn still_waiting(w: &[Waiting]) -> Result<(), Refusal> {
     let last = match made(Mistake::PlaceOfTheFirst) {
         false => w.last(),
         true => w.first(),
     };
-    match last {
-        None => Ok(()),
-        Some(last) => refuse(STILL_WAITING, last.place),
-    }
-}
-
-fn lift_waiting(w: &mut [Waiting]) {
-    if made(Mistake::WaitingNotLifted) {
-        return;
-    }
-    for waiting in w {
-        waiting.k = waiting.k.lift(1);
-    }
+    refuse(STILL_WAITING, last.expect("something waits").place)
 }
 
 /// Measures R, W, Y and B. The terms of an entry of R are in the scope of the
 /// entries before it; those of W, Y and B in the scope of all of R.
-fn state_outgrown(r: &Frame, w: &[Waiting], y: &[Term], b: &Term) -> bool {
+fn state_outgrown(state: &State) -> bool {
+    let State { r, w, y, b, .. } = state;
     let mut bytes = 0;
     let mut scope = 0;
     for (before, entry) in r.iter().enumerate() {

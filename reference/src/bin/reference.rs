@@ -11,38 +11,65 @@
 //!
 //! N is the buffer's length; it is filled with aa first and printed whole in
 //! hexadecimal.
+//!
+//! Or shows the rules of 001 at work (src/run.rs says what a line has):
+//!
+//!   run                the one-pass run of the file on standard input state by
+//!                      state, then `answer` and the four numbers of its check;
+//!                      only these if the file is refused before the walk
+//!   run plain          the run of its term by the plain rules, limits aside,
+//!                      with the two terms of each comparison and no verdict,
+//!                      then `demanded` and how many comparisons there are; it
+//!                      stops, and says so, after 1,000,000 states
+//!   rules              for each rule a smallest term that uses it and its run,
+//!                      in Markdown
 
+use reference::rules::rules_page;
+use reference::run::{write_plain_run, write_run};
 use reference::{
     apply_step, check, check_set, count_strings, examine_file, examine_term, print_term,
     write_type, StepAnswer, TypeAnswer,
 };
-use std::io::Read;
+use std::io::{BufWriter, Read, Write};
 use std::process::ExitCode;
 
 fn main() -> ExitCode {
     let arguments: Vec<String> = std::env::args().skip(1).collect();
     let arguments: Vec<&str> = arguments.iter().map(String::as_str).collect();
     let mut input = Vec::new();
-    if arguments.first() != Some(&"count") {
+    if !matches!(arguments.first(), Some(&"count" | &"rules")) {
         if let Err(error) = std::io::stdin().lock().read_to_end(&mut input) {
             eprintln!("reference: standard input: {error}");
             return ExitCode::FAILURE;
         }
     }
-    match answer(&arguments, &input) {
-        Some(line) => {
-            println!("{line}");
-            ExitCode::SUCCESS
-        }
-        None => {
-            eprintln!(
-                "usage: reference [term | file | type N | step KIND PLACE N | print N | set] < input"
-            );
-            eprintln!("       reference count LENGTH");
+    let mut out = BufWriter::new(std::io::stdout());
+    let written = match &arguments[..] {
+        ["run"] => write_run(&input, &mut out),
+        ["run", "plain"] => write_plain_run(&input, &mut out),
+        ["rules"] => out.write_all(rules_page().as_bytes()),
+        _ => match answer(&arguments, &input) {
+            Some(line) => writeln!(out, "{line}"),
+            None => {
+                eprintln!("{USAGE}");
+                return ExitCode::FAILURE;
+            }
+        },
+    };
+    match written.and_then(|()| out.flush()) {
+        Ok(()) => ExitCode::SUCCESS,
+        Err(error) => {
+            eprintln!("reference: standard output: {error}");
             ExitCode::FAILURE
         }
     }
 }
+
+const USAGE: &str = "\
+usage: reference [term | file | type N | step KIND PLACE N | print N | set] < input
+       reference run [plain] < input
+       reference count LENGTH
+       reference rules";
 
 fn answer(arguments: &[&str], input: &[u8]) -> Option<String> {
     match arguments {
