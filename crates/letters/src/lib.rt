@@ -176,6 +176,33 @@ fn read_flat(
 
 // The term that stands in s from `from` up to `to`, lifted by k, as letters from `at` on: its first at depth d and height h. Not, if
 // more than `room` of its abstractors are in scope anywhere.
+pub fn read_long(
+    s: &[u8],
+    from: usize,
+    to: usize,
+    k: usize,
+    d: usize,
+    h: usize,
+    room: usize,
+    out: &mut Letters,
+    at: usize,
+) -> bool
+    requires { ⌜ Readable (now s) from to k d h room (now out) at ⌝ }
+    ensures { λ r. ⌜ Reads (now (s .entry)) from to k d h room (now (out .entry)) (now (out .exit)) at r ⌝ }
+{
+    if largest_byte(s, from, to) < 0xff {
+        read_flat(s, from, to, k, d, h, out, at);
+        return true;
+    }
+    if to - from < 127 {
+        let mut small: [u16; 64] = [0; 64];
+        return read_with(s, from, to, k, d, h, room, out, at, &mut small[..]);
+    }
+    let mut stack: [u16; 2049] = [0; 2049];
+    read_with(s, from, to, k, d, h, room, out, at, &mut stack[..])
+}
+
+// The same, where most terms are one byte. The two are apart, so that a short one pays for nothing else.
 pub fn read(
     s: &[u8],
     from: usize,
@@ -196,16 +223,7 @@ pub fn read(
         out[at] = letter_of(lifted_index(x, 0, k), d, h);
         return true;
     }
-    if largest_byte(s, from, to) < 0xff {
-        read_flat(s, from, to, k, d, h, out, at);
-        return true;
-    }
-    if to - from < 127 {
-        let mut small: [u16; 64] = [0; 64];
-        return read_with(s, from, to, k, d, h, room, out, at, &mut small[..]);
-    }
-    let mut stack: [u16; 2049] = [0; 2049];
-    read_with(s, from, to, k, d, h, room, out, at, &mut stack[..])
+    read_long(s, from, to, k, d, h, room, out, at)
 }
 
 // ---- Letters into bytes.

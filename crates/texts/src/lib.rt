@@ -10,7 +10,7 @@ use indices::larger;
 use letters::APPLICATOR;
 use letters::Letters;
 use letters::depth_of;
-use letters::read;
+use letters::read_long;
 use letters::symbol_of;
 
 // The size and the scope of a term.
@@ -76,7 +76,7 @@ pub fn measure(
     ensures { λ r. ⌜ Sized (now (t .entry)) (now (sizes .exit)) (now (scopes .exit)) × (length (now (letters .exit)) ≡ longestTerm) × (length (now (sizes .exit)) ≡ length (now (sizes .entry))) × (length (now (scopes .exit)) ≡ length (now (scopes .entry))) × Depths (now (t .entry)) (now (depths .exit)) × (length (now (depths .exit)) ≡ length (now (depths .entry))) ⌝ }
 {
     let n = t.len();
-    read(t, 0, n, 0, 0, 0, MOST_ABSTRACTORS, letters, 0);
+    read_long(t, 0, n, 0, 0, 0, MOST_ABSTRACTORS, letters, 0);
     note_depths(letters, n, depths);
     let mut i = n;
     while i > 0 {

@@ -1,9 +1,9 @@
--- `letters::read` meets its contract: one byte by itself, without abstractors by `read_flat`, else by `read_with`.
+-- `letters::read` meets its contract: one byte by itself, else by `read_long`.
 -- Assumes nothing.
 use mathlib.Core.Path.{refl}
 use native.Mathlib.Omega.{arith}
 use Rattle.code.proofs.Parts.{stands-end}
-use Rattle.letters.proofs.Flat.{up-to-end, readable-flat, reads-flat, one-byte, reads-one}
+use Rattle.letters.proofs.Flat.{one-byte, reads-one}
 use borrow.Author.Needs.{needs}
 use Rattle.letters.proofs.read.Statement.{statement}
 use Rattle.letters.proofs.read.Tie as tie
@@ -26,15 +26,6 @@ element-write-out c = let r = c .before .before .before .before .before .before 
 returns : tie.Need-returns
 returns c = reads-one (c .before .before .before .before .before .before .pre) (c .before .before .before .before .if1 .taken) (c .before .before .index-of .ensures .0) (c .before .lifted-index .ensures .0) (c .letter-of .ensures) refl
 
-largest-byte-requires : tie.Need-largest-byte-requires
-largest-byte-requires c κs = stands-end (c .before .before .pre .standing .stands)
-
-read-flat-requires : tie.Need-read-flat-requires
-read-flat-requires c κs = (readable-flat (c .before .before .before .before .before .pre), up-to-end (c .before .before .largest-byte .ensures) (omega arith) (omega (arith, c .before .if2 .taken)))
-
-returns-2 : tie.Need-returns-2
-returns-2 c = reads-flat (c .read-flat .ensures)
-
 pub read-spec : {M : Type 1} → statement M
 read-spec =
     tie.close
@@ -47,13 +38,5 @@ read-spec =
     mul-out
     element-write-out
     returns
-    largest-byte-requires
-    read-flat-requires
-    returns-2
-    (λ c. search needs)
-    (λ c. search needs)
-    (λ c κs. search needs)
-    (λ c. search needs)
-    (λ c. search needs)
     (λ c κs. search needs)
     (λ c. search needs))

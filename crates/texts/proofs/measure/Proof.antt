@@ -12,14 +12,14 @@ Inv-loop t letters sizes₀ scopes₀ depths n i₀ sizes scopes i = MeasuredFro
 abbrev μ-loop : tie.MeasureT-loop
 μ-loop t letters sizes₀ scopes₀ depths n i₀ sizes scopes i = i
 
-read-requires : tie.Need-read-requires Inv-loop μ-loop
-read-requires c κs = whole-readable (c .before .before .before .before .before .pre .0) _ (c .before .before .before .before .before .pre .1)
+read-long-requires : tie.Need-read-long-requires Inv-loop μ-loop
+read-long-requires c κs = whole-readable (c .before .before .before .before .before .pre .0) _ (c .before .before .before .before .before .pre .1)
 
 note-depths-requires : tie.Need-note-depths-requires Inv-loop μ-loop
-note-depths-requires c κs = notable (c .before .before .before .before .before .before .before .before .pre .0) _ (c .before .before .before .before .before .before .before .before .pre .1) (c .before .before .read .ensures) (c .before .before .before .before .before .before .before .before .pre .4)
+note-depths-requires c κs = notable (c .before .before .before .before .before .before .before .before .pre .0) _ (c .before .before .before .before .before .before .before .before .pre .1) (c .before .before .read-long .ensures) (c .before .before .before .before .before .before .before .before .pre .4)
 
 loop-holds : tie.Need-loop-holds Inv-loop μ-loop
-loop-holds c = measured-none (c .before .before .before .before .before .before .before .before .before .before .before .pre .0) (c .before .before .before .before .before .read .ensures .same-length ∙ c .before .before .before .before .before .before .before .before .before .before .before .pre .1) (whole-lettered (c .before .before .before .before .before .before .before .before .before .before .before .pre .0) _ (c .before .before .before .before .before .before .before .before .before .before .before .pre .1) (c .before .before .before .before .before .read .ensures)) (c .before .before .before .before .before .before .before .before .before .before .before .pre .2) (c .before .before .before .before .before .before .before .before .before .before .before .pre .3)
+loop-holds c = measured-none (c .before .before .before .before .before .before .before .before .before .before .before .pre .0) (c .before .before .before .before .before .read-long .ensures .same-length ∙ c .before .before .before .before .before .before .before .before .before .before .before .pre .1) (whole-lettered (c .before .before .before .before .before .before .before .before .before .before .before .pre .0) _ (c .before .before .before .before .before .before .before .before .before .before .before .pre .1) (c .before .before .before .before .before .read-long .ensures)) (c .before .before .before .before .before .before .before .before .before .before .before .pre .2) (c .before .before .before .before .before .before .before .before .before .before .before .pre .3)
 
 sub-i : tie.Need-sub-i Inv-loop μ-loop
 sub-i c = omega arith
@@ -61,7 +61,7 @@ same-length-3 : tie.Need-same-length-3 Inv-loop μ-loop
 same-length-3 c = c .before .before .before .before .note-depths .ensures .same-length
 
 returns : tie.Need-returns Inv-loop μ-loop
-returns c = (measured-all (c .before .loop .inv) (c .loop-test .left), c .before .loop .inv .array, c .before .loop .inv .same-sizes, c .before .loop .inv .same-scopes, depths-known (c .before .before .before .before .before .before .before .before .before .before .before .before .before .pre .0) _ (c .before .before .before .before .before .before .before .before .before .before .before .before .before .pre .1) (c .before .before .before .before .before .before .before .read .ensures) (c .before .before .before .before .note-depths .ensures), c .before .before .before .before .note-depths .ensures .same-length)
+returns c = (measured-all (c .before .loop .inv) (c .loop-test .left), c .before .loop .inv .array, c .before .loop .inv .same-sizes, c .before .loop .inv .same-scopes, depths-known (c .before .before .before .before .before .before .before .before .before .before .before .before .before .pre .0) _ (c .before .before .before .before .before .before .before .before .before .before .before .before .before .pre .1) (c .before .before .before .before .before .before .before .read-long .ensures) (c .before .before .before .before .note-depths .ensures), c .before .before .before .before .note-depths .ensures .same-length)
 
 pub measure-spec : {M : Type 1} → statement M
 measure-spec =
@@ -69,7 +69,7 @@ measure-spec =
     (tie.spec
     Inv-loop
     μ-loop
-    read-requires
+    read-long-requires
     note-depths-requires
     loop-holds
     sub-i
