@@ -67,31 +67,32 @@ pub struct Walked {
 }
 
 // A state (R, W, B) of the term's own text or (R, W, Y, B) of copied text, but for its frame R. The order of the fields was tried: by it
-// alone LLVM's code differs by up to a tenth (docs/BENCHMARK.md).
+// alone LLVM's code takes from 0.9 to 1.2 of the time for a book (docs/BENCHMARK.md).
 pub struct WalkState {
+    // what stands inside B's first applicator or abstractor has been checked
+    pub checked: bool,
     // B is the term's own text
     pub own: bool,
+    // completed so far
+    pub comparisons: usize,
     // where B begins in the term; in copied text, the variable that it stems from
     pub place: usize,
     // where B's bytes begin
     pub from: usize,
     // the place of the term's text that B is a copy of
     pub origin: usize,
-    // B is seen lifted above `cut` by `shift`
-    pub cut: usize,
-    pub shift: usize,
     // W stands in the list from `bottom` up to `middle`, and Y above it up to `top`
     pub bottom: usize,
     pub middle: usize,
     pub top: usize,
-    // of all that waits
+    // of all that waits; its scope is below
     pub size: usize,
+    // B is seen lifted above `cut` by `shift`
+    pub cut: usize,
+    pub shift: usize,
     pub scope: usize,
-    // the next group, and the comparisons completed
+    // the next group
     pub next: usize,
-    pub comparisons: usize,
-    // what stands inside B's first applicator or abstractor has been checked
-    pub checked: bool,
     // B's bytes stand in the term; else in the work array
     pub in_term: bool,
 }
