@@ -1,13 +1,14 @@
 /* The calls of the proved checker, for C99 and C++. Link with libexports.a (README, 'From C and Rust').
  *
- * A slice is a pointer and a length: s and n are the input, out and m the buffer that the caller lends. Each pointer is a
- * valid pointer, also for length 0. out overlaps neither s nor answer, and answer does not overlap s.
+ * A slice is a pointer and a length: s and n are the input, out and m the buffer that the caller lends, or left and l, right and
+ * r the two buffers. Each pointer is a valid pointer, also for length 0. Input, buffers and answer do not overlap.
  *
  * Any bytes and numbers may be handed in, and every call returns. No call relies on an earlier one and none keeps anything, so
  * several threads may call at once. The input is never changed.
  *
  * In every answer but that to a set, answer[0] is the number, 0 if accepted. Where bytes are handed in, the place follows, 0 if
- * accepted. At a refusal the buffer keeps every byte; after a result it keeps every byte past it.
+ * accepted. At a refusal a buffer keeps every byte; after a result it keeps every byte past it. To bijterne_explain the two bodies
+ * of a 12 are the result, and it has no other.
  */
 #ifndef BIJTERNE_H
 #define BIJTERNE_H
@@ -33,9 +34,9 @@ enum bijterne_number {
     BIJTERNE_NO_GROUP_LEFT = 9,       /* the applicator, in the term */
     BIJTERNE_STEP_NOT_POSSIBLE = 10,  /* the applicator, in the term; 0 for bijterne_apply_step */
     BIJTERNE_OUTGROWN = 11,           /* over a limit on the way; a byte of the term; 0 for a written result */
-    BIJTERNE_BODIES_DIFFER = 12,      /* the applicator, in the term */
+    BIJTERNE_BODIES_DIFFER = 12,      /* the applicator, in the term; bijterne_explain writes both bodies */
     BIJTERNE_GROUPS_LEFT = 13,        /* the head of the first unused group, in the file */
-    BIJTERNE_BUFFER_TOO_SHORT = 14,   /* the result is longer than the buffer; 0 */
+    BIJTERNE_BUFFER_TOO_SHORT = 14,   /* a result is longer than its buffer; 0 */
     BIJTERNE_TOO_LONG_TO_COUNT = 15,  /* a length over 7; no place */
     BIJTERNE_NOT_A_SET = 16           /* a set with no file, a field cut short or another tag; the field's head, in the set */
 };
@@ -75,7 +76,7 @@ void bijterne_print_term(const uint8_t *s, size_t n, uint8_t *out, size_t m, uin
 void bijterne_count_strings(size_t length, uint64_t answer[4]);
 
 /* Checks a file: numbers 1 to 13. answer: number, place, comparisons completed, degree of the term (0 for numbers 1 to 6).
- * The deepest term needs 3 MiB of stack, and even a small file some 190 KiB; the other calls need less than 48 KiB. */
+ * The deepest term needs 3 MiB of stack, and even a small file some 190 KiB; a call that checks nothing needs less than 48 KiB. */
 void bijterne_check(const uint8_t *s, size_t n, uint64_t answer[4]);
 
 /* The longest set, heads included. */
@@ -87,6 +88,35 @@ void bijterne_check(const uint8_t *s, size_t n, uint64_t answer[4]);
  * four numbers of bijterne_check for it; or, if all are accepted, how many files, 0, 0, the comparisons in all files, 0. It needs
  * the stack of bijterne_check. */
 void bijterne_check_set(const uint8_t *s, size_t n, uint64_t answer[5]);
+
+/* Whose steps: the left ones carry the type of the applicator's K, the right ones the abstractor's U. */
+enum bijterne_side {
+    BIJTERNE_LEFT = 0,
+    BIJTERNE_RIGHT = 1
+};
+
+/* Why a step is not possible: the first that fails, in this order. */
+enum bijterne_condition {
+    BIJTERNE_CONDITION_KIND = 1,        /* the kind is not 1, 2 or 3 */
+    BIJTERNE_CONDITION_PLACE = 2,       /* the place is past the body */
+    BIJTERNE_CONDITION_BYTE = 3,        /* not a variable there (kind 1), or not fe (kinds 2 and 3) */
+    BIJTERNE_CONDITION_NO_PARTNER = 4,  /* the variable's abstractor has no applicator, or the applicator no abstractor */
+    BIJTERNE_CONDITION_STILL_USED = 5   /* the couple's variable has a use (kind 2) */
+};
+
+/* No body is longer: two buffers of this length are always enough for bijterne_explain. */
+#define BIJTERNE_LONGEST_BODY 4096
+
+/* Checks a file, and says what stopped it: numbers 1 to 14. answer: the four numbers of bijterne_check, and then
+ *   12: the length of the left body, that of the right body, the place of the first byte at which they differ (from 0), 0. Both
+ *       bodies, as the file's steps carried them, are written, to the starts of left and right. Neither is a proper beginning of
+ *       the other;
+ *   10: the side, the step's number in that side's list (from 0), the condition, 0;
+ *   8: how many wait, 0, 0, 0;
+ *   any other: 0, 0, 0, 0.
+ * Where a 12 finds either buffer too short for its body, the answer is 14, 0, the check's comparisons and degree, 0, 0, 0, 0, and
+ * neither buffer is written. It needs the stack of bijterne_check. */
+void bijterne_explain(const uint8_t *s, size_t n, uint8_t *left, size_t l, uint8_t *right, size_t r, uint64_t answer[8]);
 
 #ifdef __cplusplus
 }

@@ -16,6 +16,7 @@ pub enum Kind {
     /// The strings of this length.
     Count(usize),
     Set,
+    Explain,
 }
 
 use Kind::*;
@@ -24,27 +25,29 @@ extern "C" {
     /// Called as from C, so that the answer can be filled beforehand: a number that is not written shows then.
     fn bijterne_count_strings(length: usize, answer: *mut [u64; 4]);
     fn bijterne_check_set(s: *const u8, n: usize, answer: *mut [u64; 5]);
+    fn bijterne_explain(s: *const u8, n: usize, left: *mut u8, l: usize, right: *mut u8, r: usize, answer: *mut [u64; 8]);
 }
 
 /// Bytes before and after a lent buffer that no call may touch.
 const GUARD: usize = 8;
 
-/// A call: which one, its input (none for Count), and for Type, Step and Print the bytes of the buffer before the call, with a
-/// guard on each side.
+/// A call: which one, its input (none for Count), and the bytes of the buffers before the call, one for Type, Step and Print, a
+/// left and a right one for Explain, each with a guard on each side.
 #[derive(Clone, PartialEq, Eq)]
 pub struct Call {
     pub kind: Kind,
     pub input: Vec<u8>,
-    pub buffer: Vec<u8>,
+    pub buffers: Vec<Vec<u8>>,
 }
 
-/// An answer: for Set the file number, the call's numbers, or none if it is 'none', and the buffer and its guards after the
-/// call. The numbers of Set are those of Check.
+/// An answer: for Set the file number, the call's numbers, or none if it is 'none', for Explain its last four numbers, and the
+/// buffers and their guards after the call. The numbers of Set and Explain are those of Check.
 #[derive(Clone, PartialEq, Eq)]
 pub struct Answer {
     pub file: Option<u64>,
     pub numbers: Option<[u64; 4]>,
-    buffer: Vec<u8>,
+    pub ground: Option<[u64; 4]>,
+    buffers: Vec<Vec<u8>>,
 }
 
 impl Answer {
@@ -53,38 +56,47 @@ impl Answer {
         self.numbers.map(|numbers| numbers[0] as usize)
     }
 
-    /// Whether these bytes stand at the start of the lent buffer, and elsewhere what stood there before the call.
-    pub fn wrote(&self, bytes: &[u8], call: &Call) -> bool {
-        let mut expected = call.buffer.clone();
-        if !bytes.is_empty() {
-            lent(&mut expected)[..bytes.len()].copy_from_slice(bytes);
+    /// Whether these bytes stand at the starts of the lent buffers, if any for a buffer, and elsewhere what stood there before.
+    pub fn wrote(&self, written: &[Vec<u8>], call: &Call) -> bool {
+        let mut expected = call.buffers.clone();
+        for (buffer, bytes) in expected.iter_mut().zip(written) {
+            lent(buffer)[..bytes.len()].copy_from_slice(bytes);
         }
-        self.buffer == expected
+        self.buffers == expected
     }
 
-    fn of(numbers: [u64; 4], buffer: Vec<u8>) -> Answer {
-        Answer { file: None, numbers: Some(numbers), buffer }
+    fn of(numbers: [u64; 4], buffers: Vec<Vec<u8>>) -> Answer {
+        Answer { file: None, numbers: Some(numbers), ground: None, buffers }
     }
 
-    fn of_written(a: StepAnswer, buffer: Vec<u8>) -> Answer {
-        Answer::of([a.number.into(), a.place as u64, a.len as u64, 0], buffer)
+    fn of_written(a: StepAnswer, buffers: Vec<Vec<u8>>) -> Answer {
+        Answer::of([a.number.into(), a.place as u64, a.len as u64, 0], buffers)
+    }
+
+    fn of_explained([number, place, comparisons, degree, ground @ ..]: [u64; 8], buffers: Vec<Vec<u8>>) -> Answer {
+        Answer { ground: Some(ground), ..Answer::of([number, place, comparisons, degree], buffers) }
     }
 }
 
 impl Call {
     pub fn new(kind: Kind, input: &[u8]) -> Call {
-        Call { kind, input: input.to_vec(), buffer: Vec::new() }
+        Call { kind, input: input.to_vec(), buffers: Vec::new() }
     }
 
     /// With a buffer of this length, its bytes and those of the guards as they come.
     pub fn lending(kind: Kind, input: &[u8], length: usize, rng: &mut Rng) -> Call {
-        Call { kind, input: input.to_vec(), buffer: rng.bytes(length + 2 * GUARD) }
+        Call { kind, input: input.to_vec(), buffers: vec![guarded(length, rng)] }
+    }
+
+    /// Explain, with buffers of these lengths in the same way.
+    pub fn explaining(input: &[u8], lengths: [usize; 2], rng: &mut Rng) -> Call {
+        Call { kind: Explain, input: input.to_vec(), buffers: lengths.map(|length| guarded(length, rng)).to_vec() }
     }
 
     /// The proved library's answer.
     pub fn proved(&self) -> Answer {
         let s = &self.input[..];
-        let mut buffer = self.buffer.clone();
+        let mut buffers = self.buffers.clone();
         let mut file = None;
         let numbers = match self.kind {
             Term => {
@@ -96,14 +108,14 @@ impl Call {
                 let start = if a.term.is_empty() { 0 } else { a.term.as_ptr() as usize - s.as_ptr() as usize };
                 Some([a.number.into(), a.place as u64, start as u64, (start + a.term.len()) as u64])
             }
-            Type => bijterne::write_type(s, lent(&mut buffer)).map(written),
-            Step(kind, place) => Some(written(bijterne::apply_step(s, kind, place, lent(&mut buffer)))),
+            Type => bijterne::write_type(s, lent(&mut buffers[0])).map(written),
+            Step(kind, place) => Some(written(bijterne::apply_step(s, kind, place, lent(&mut buffers[0])))),
             Check => {
                 // SAFETY: the program runs its calls on stacks larger than any check needs.
                 let a = unsafe { bijterne::check_here(s) };
                 Some([a.number.into(), a.place as u64, a.comparisons as u64, a.degree as u64])
             }
-            Print => Some(written(bijterne::print_term(s, lent(&mut buffer)))),
+            Print => Some(written(bijterne::print_term(s, lent(&mut buffers[0])))),
             Count(length) => {
                 let mut numbers = [u64::MAX; 4];
                 // SAFETY: the pointer is that of a live array of four numbers.
@@ -118,57 +130,73 @@ impl Call {
                 file = Some(of_file);
                 Some([number, place, comparisons, degree])
             }
+            Explain => {
+                let mut numbers = [u64::MAX; 8];
+                let [left, right] = lent_two(&mut buffers);
+                let (l, r) = (left.len(), right.len());
+                // SAFETY: as for Set; each buffer is a slice of its own.
+                unsafe { bijterne_explain(s.as_ptr(), s.len(), left.as_mut_ptr(), l, right.as_mut_ptr(), r, &mut numbers) };
+                return Answer::of_explained(numbers, buffers);
+            }
         };
-        Answer { file, numbers, buffer }
+        Answer { file, numbers, ground: None, buffers }
     }
 
     /// The reference's answer; none if it panics.
     pub fn reference(&self) -> Option<Answer> {
-        let mut buffer = self.buffer.clone();
+        let mut buffers = self.buffers.clone();
         catch_unwind(AssertUnwindSafe(move || {
             let s = &self.input[..];
             match self.kind {
                 Term => {
                     let a = reference::examine_term(s);
-                    Answer::of([a.number.into(), a.place as u64, a.degree, 0], buffer)
+                    Answer::of([a.number.into(), a.place as u64, a.degree, 0], buffers)
                 }
                 File => {
                     let a = reference::examine_file(s);
-                    Answer::of([a.number.into(), a.place as u64, a.part.start as u64, a.part.end as u64], buffer)
+                    Answer::of([a.number.into(), a.place as u64, a.part.start as u64, a.part.end as u64], buffers)
                 }
-                Type => match reference::write_type(s, lent(&mut buffer)) {
-                    TypeAnswer::None_ => Answer { file: None, numbers: None, buffer },
-                    TypeAnswer::Answer { number, place, len } => Answer::of_written(StepAnswer { number, place, len }, buffer),
+                Type => match reference::write_type(s, lent(&mut buffers[0])) {
+                    TypeAnswer::None_ => Answer { file: None, numbers: None, ground: None, buffers },
+                    TypeAnswer::Answer { number, place, len } => Answer::of_written(StepAnswer { number, place, len }, buffers),
                 },
-                Step(kind, place) => Answer::of_written(reference::apply_step(s, kind, place, lent(&mut buffer)), buffer),
+                Step(kind, place) => Answer::of_written(reference::apply_step(s, kind, place, lent(&mut buffers[0])), buffers),
                 Check => {
                     let a = reference::check(s);
-                    Answer::of([a.number.into(), a.place as u64, a.comparisons as u64, a.degree], buffer)
+                    Answer::of([a.number.into(), a.place as u64, a.comparisons as u64, a.degree], buffers)
                 }
-                Print => Answer::of_written(reference::print_term(s, lent(&mut buffer)), buffer),
+                Print => Answer::of_written(reference::print_term(s, lent(&mut buffers[0])), buffers),
                 Count(length) => {
                     let a = reference::count_strings(length);
-                    Answer::of([a.number.into(), a.accepted, a.refused_3, a.refused_5], buffer)
+                    Answer::of([a.number.into(), a.accepted, a.refused_3, a.refused_5], buffers)
                 }
                 Set => {
                     let a = reference::check_set(s);
-                    let answer = Answer::of([a.number.into(), a.place as u64, a.comparisons as u64, a.degree], buffer);
+                    let answer = Answer::of([a.number.into(), a.place as u64, a.comparisons as u64, a.degree], buffers);
                     Answer { file: Some(a.file as u64), ..answer }
+                }
+                Explain => {
+                    let [left, right] = lent_two(&mut buffers);
+                    Answer::of_explained(reference::explain(s, left, right).numbers(), buffers)
                 }
             }
         }))
         .ok()
     }
 
-    /// How long its lent buffer is.
-    pub fn lent(&self) -> usize {
-        self.buffer.len().saturating_sub(2 * GUARD)
+    /// The answer to Explain of a file with this answer to Check, where nothing is added to it.
+    pub fn adding_nothing(&self, check: &Answer) -> Answer {
+        Answer { ground: Some([0; 4]), buffers: self.buffers.clone(), ..check.clone() }
     }
 
-    /// The same call with a buffer of this length and 0 everywhere in it.
-    pub fn with_zeros(&self, length: usize) -> Call {
-        let all = if self.buffer.is_empty() { 0 } else { length + 2 * GUARD };
-        Call { buffer: vec![0; all], ..self.clone() }
+    /// How long its lent buffers are.
+    pub fn lent(&self) -> Vec<usize> {
+        self.buffers.iter().map(|buffer| buffer.len() - 2 * GUARD).collect()
+    }
+
+    /// The same call with buffers of these lengths and 0 everywhere in them.
+    pub fn with_zeros(&self, lengths: &[usize]) -> Call {
+        Call { buffers: lengths.iter().map(|length| vec![0; length + 2 * GUARD]).collect(), ..self.clone() }
     }
 
     /// The one answer of both, or none.
@@ -183,9 +211,20 @@ fn written(a: bijterne::Written) -> [u64; 4] {
     [a.number.into(), a.place as u64, a.length as u64, 0]
 }
 
+/// A buffer of this length with its guards.
+fn guarded(length: usize, rng: &mut Rng) -> Vec<u8> {
+    rng.bytes(length + 2 * GUARD)
+}
+
 fn lent(buffer: &mut [u8]) -> &mut [u8] {
     let end = buffer.len() - GUARD;
     &mut buffer[GUARD..end]
+}
+
+/// The left and the right one of Explain.
+fn lent_two(buffers: &mut [Vec<u8>]) -> [&mut [u8]; 2] {
+    let [left, right] = buffers else { panic!("Explain has two buffers") };
+    [lent(left), lent(right)]
 }
 
 /// Bytes in hexadecimal.
@@ -197,19 +236,19 @@ impl fmt::Display for Hex<'_> {
     }
 }
 
-/// A buffer's lent bytes between those of its guards.
-fn with_guards(buffer: &[u8]) -> String {
-    if buffer.is_empty() {
-        return String::new();
-    }
-    let (before, rest) = buffer.split_at(GUARD);
-    let (lent, after) = rest.split_at(rest.len() - GUARD);
-    format!(" buffer {}|{}|{}", Hex(before), Hex(lent), Hex(after))
+/// Of each buffer the lent bytes between those of its guards.
+fn with_guards(buffers: &[Vec<u8>]) -> String {
+    let shown = buffers.iter().map(|buffer| {
+        let (before, rest) = buffer.split_at(GUARD);
+        let (lent, after) = rest.split_at(rest.len() - GUARD);
+        format!(" buffer {}|{}|{}", Hex(before), Hex(lent), Hex(after))
+    });
+    shown.collect()
 }
 
 impl fmt::Display for Call {
     fn fmt(&self, f: &mut fmt::Formatter) -> fmt::Result {
-        write!(f, "{:?} of {} bytes {}{}", self.kind, self.input.len(), Hex(&self.input), with_guards(&self.buffer))
+        write!(f, "{:?} of {} bytes {}{}", self.kind, self.input.len(), Hex(&self.input), with_guards(&self.buffers))
     }
 }
 
@@ -222,6 +261,9 @@ impl fmt::Display for Answer {
             None => write!(f, "none")?,
             Some([a, b, c, d]) => write!(f, "{a} {b} {c} {d}")?,
         }
-        write!(f, "{}", with_guards(&self.buffer))
+        if let Some([a, b, c, d]) = self.ground {
+            write!(f, " {a} {b} {c} {d}")?;
+        }
+        write!(f, "{}", with_guards(&self.buffers))
     }
 }

@@ -1,10 +1,10 @@
-//! differential SEED COUNT: the proved calls, through the Rust wrapper (Count and Set as from C), against the independent
+//! differential SEED COUNT: the proved calls, through the Rust wrapper (Count, Set and Explain as from C), against the independent
 //! implementation. Every number of the two answers is compared, and every byte of a lent buffer with 8 bytes on each side of it.
 //!
 //! Compared first, whatever the seed:
 //! - document 01's examples and the inputs at the limits in `named`, with each other and with the answer written there, and the
-//!   sweeps in `limits` (File, Check, Print);
-//! - files: all strings of at most 4 bytes over the interesting values 00 01 02 03 fc fd fe ff (File, Check);
+//!   sweeps in `limits` (File, Check, Explain, Print);
+//! - files: all strings of at most 4 bytes over the interesting values 00 01 02 03 fc fd fe ff (File, Check, Explain);
 //! - bare terms: all terms of at most 3 bytes, as all strings of at most 2 bytes and all of 3 that begin with fe or ff; all
 //!   strings of at most 5 bytes over the interesting values, since the 131 million terms of 5 bytes differ otherwise only in
 //!   indices beyond every scope (Term, Type, Print; for those that are closed terms also Step, of kinds 0 to 4 at every place);
@@ -13,17 +13,23 @@
 //!   place;
 //! - closed terms of every size about a line's end, the smallest and the longest, for Print, into the buffers that `pages` says;
 //! - all strings of at most 2 bytes, counted by the proved library's own answers to Term, for Count;
-//! - all strings of at most 7 bytes over 00 01 04 05, and the sets in `sets`, for Set.
+//! - all strings of at most 7 bytes over 00 01 04 05, and the sets in `sets`, for Set;
+//! - [τ][T]⟨1⟩[T]τ for all terms T of at most 7 bytes with indices of at most 2, if it is accepted without steps, for Explain with
+//!   a step of kinds 0 to 4 at every place of either body and past it.
 //!
-//! Then, for each number below COUNT, from the seed: a file (File, Check); a bare term (Term, Type, Step, Print), the buffer
-//! longer than the result, and then empty, too short by one, exact or longer by one, its bytes at random; a length (Count); for
-//! one number in four a set, in one of four with that file in it (Set).
+//! Then, for each number below COUNT, from the seed: a file (File, Check, Explain); a bare term (Term, Type, Step, Print), the
+//! buffer longer than the result, and then empty, too short by one, exact or longer by one, its bytes at random; a length (Count);
+//! for one number in four a set, in one of four with that file in it (Set), and for one in eight a file that mostly stops with 8,
+//! 10 or 12 (Explain). The buffers of Explain are longer than any body, short or empty; at 12 another two follow, each empty, too
+//! short by one, exact or longer by one. Where a file is neither 8, 10 nor 12 to Check, Explain is compared with that answer of the
+//! independent implementation and four times 0.
 //!
 //! A disagreement prints the smallest call that it could be shrunk to, and the exit status is 1; so it is if in a run of
 //! 100,000 or more, among the calls made from the seed, some number from 0 to 16 was no call's answer, or no accepted file had so
 //! many comparisons, or steps, or some number was missing from the answers with kind 3, or from those that would be 10 if steps
 //! took pairs only, or 0, 3, 4, 5, 6 or 14 from those of Print, or 0 or 15 from those of Count, or 0 to 13 or 16 from those of
-//! Set, or 1 to 13 from those of Set that name a file after the first, or no accepted set had so many files.
+//! Set, or 1 to 13 from those of Set that name a file after the first, or no accepted set had so many files, or 0 to 14 from those
+//! of Explain, or some condition of a step on some side from its answers 10, or so many that wait from its answers 8.
 
 mod call;
 mod named;
@@ -32,13 +38,14 @@ mod shrink;
 mod tally;
 
 use call::{Answer, Call, Kind};
-use reference::frame::{LOCAL, REMOVAL, SUBSTITUTION};
-use reference::gen::{bare_term, closed_term, empty_groups, file, items_after, random_file, random_set, step_for, ItemKind};
+use reference::frame::{Step, LOCAL, REMOVAL, SUBSTITUTION};
+use reference::gen::{bare_term, closed_term, empty_groups, file, items_after, random_file, random_set, step_for, stopped_file};
+use reference::gen::ItemKind;
 use reference::rng::Rng;
 use reference::mistakes::set_aside;
 use reference::page::page_length;
 use reference::stack::on_large_stack;
-use reference::term::read_term;
+use reference::term::{read_term, Term};
 use shrink::report;
 use std::process::ExitCode;
 use std::sync::atomic::{AtomicBool, Ordering};
@@ -67,8 +74,9 @@ fn named_limits(tally: &mut Tally) -> Result<usize, Disagreed> {
     let all = named::named();
     for named in &all {
         let answer = compare(&named.call, tally)?;
-        if (answer.file, answer.numbers) != (named.file, named.numbers) {
-            println!("DISAGREE with the table on '{}': {answer} and not {:?} {:?}", named.name, named.file, named.numbers);
+        let expected = (named.file, named.numbers, named.ground);
+        if (answer.file, answer.numbers, answer.ground) != expected {
+            println!("DISAGREE with the table on '{}': {answer} and not {expected:?}", named.name);
             return Err(Disagreed);
         }
         if named.written.as_ref().is_some_and(|written| !answer.wrote(written, &named.call)) {
@@ -113,11 +121,12 @@ fn fixed(tally: &mut Tally) -> Result<usize, Disagreed> {
     let written = named_limits(tally)?;
     let interesting = [0x00, 0x01, 0x02, 0x03, 0xfc, 0xfd, 0xfe, 0xff];
     let limits = limits();
+    let mut rng = Rng::new(0);
     for input in strings(&interesting, 4).into_iter().chain(limits.iter().map(|term| file(term, &empty_groups(0)))) {
         compare(&Call::new(Kind::File, &input), tally)?;
         compare(&Call::new(Kind::Check, &input), tally)?;
+        compare(&Call::explaining(&input, [3, 3], &mut rng), tally)?;
     }
-    let mut rng = Rng::new(0);
     for input in limits {
         compare_written(Kind::Print, &input, &mut rng, tally)?;
     }
@@ -155,7 +164,33 @@ fn fixed(tally: &mut Tally) -> Result<usize, Disagreed> {
     for input in strings(&values, 7).into_iter().chain(sets::all()) {
         compare(&Call::new(Kind::Set, &input), tally)?;
     }
+    steps_of_files(&mut rng, tally)?;
     Ok(written)
+}
+
+/// Explains [τ][T]⟨1⟩[T]τ for all small T with which it is accepted, with a step of kinds 0 to 4 at every place of the type of 1,
+/// and of the second T, and past them.
+fn steps_of_files(rng: &mut Rng, tally: &mut Tally) -> Result<(), Disagreed> {
+    for t in (1..=7).step_by(2).flat_map(small_terms) {
+        let Ok(Term::Abs(declared)) = read_term(&[&[0xff, 0], &t[..]].concat()) else { continue };
+        let lifted = set_aside(|| declared.parts().1.lift(1)).bytes();
+        let term = [&[0xff, 0, 0xff], &t[..], &[0xfe, 1, 0xff], &lifted, &[0]].concat();
+        let applicators = term.iter().filter(|byte| **byte == 0xfe).count();
+        let groups = empty_groups(applicators);
+        if compare(&Call::explaining(&file(&term, &groups), [9, 9], rng), tally)?.number() != Some(0) {
+            continue;
+        }
+        let steps = (0..=4).flat_map(|kind| (0..=t.len()).map(move |place| Step { kind, place }));
+        for step in steps {
+            for side in [0, 1] {
+                let mut groups = groups.clone();
+                let last = &mut groups[applicators - 1];
+                [&mut last.left, &mut last.right][side].push(step);
+                compare(&Call::explaining(&file(&term, &groups), [9, 9], rng), tally)?;
+            }
+        }
+    }
+    Ok(())
 }
 
 /// The steps of kinds 1 to 3 at every place of a train for every sequence of at most 8 applicators and abstractors, after two
@@ -242,12 +277,52 @@ fn compare_written(kind: Kind, input: &[u8], rng: &mut Rng, tally: &mut Tally) -
     Ok(())
 }
 
-/// The file, the bare term, the length and sometimes the set made from one number.
+/// The lengths of two buffers: most are longer than any body, others short or empty.
+fn lengths_to_explain(rng: &mut Rng) -> [usize; 2] {
+    [0, 1].map(|_| match rng.below(4) {
+        0 => rng.below(3),
+        _ => rng.between(4_096, 4_100),
+    })
+}
+
+/// Compares Explain of a file with this answer to Check. Where nothing is added to that the reference is not asked again.
+fn compare_explained_after_check(input: &[u8], check: &Answer, rng: &mut Rng, tally: &mut Tally) -> Result<(), Disagreed> {
+    if let Some(8 | 10 | 12) = check.number() {
+        return compare_explained(input, rng, tally);
+    }
+    let call = Call::explaining(input, lengths_to_explain(rng), rng);
+    let proved = call.proved();
+    if proved != call.adding_nothing(check) {
+        report(&call);
+        return Err(Disagreed);
+    }
+    tally.count(&call, &proved);
+    Ok(())
+}
+
+/// Compares Explain; at 12 also with buffers about as long as the bodies.
+fn compare_explained(input: &[u8], rng: &mut Rng, tally: &mut Tally) -> Result<(), Disagreed> {
+    let mut answer = compare(&Call::explaining(input, lengths_to_explain(rng), rng), tally)?;
+    if answer.number() == Some(14) {
+        answer = compare(&Call::explaining(input, [4_096; 2], rng), tally)?;
+    }
+    let (Some(12), Some([left, right, ..])) = (answer.number(), answer.ground) else { return Ok(()) };
+    let lengths = [left as usize, right as usize].map(|length| match rng.below(5) {
+        0 => 0,
+        1 => length - 1,
+        2 | 3 => length,
+        _ => length + 1,
+    });
+    compare(&Call::explaining(input, lengths, rng), tally)?;
+    Ok(())
+}
+
+/// The files, the bare term, the length and sometimes the set made from one number.
 fn random(number: u64, tally: &mut Tally) -> Result<(), Disagreed> {
     let mut rng = Rng::new(number);
     let file = set_aside(|| random_file(&mut rng));
     compare(&Call::new(Kind::File, &file), tally)?;
-    compare(&Call::new(Kind::Check, &file), tally)?;
+    let check = compare(&Call::new(Kind::Check, &file), tally)?;
     let input = set_aside(|| bare_term(&mut rng));
     compare(&Call::new(Kind::Term, &input), tally)?;
     compare_written(Kind::Type, &input, &mut rng, tally)?;
@@ -264,6 +339,11 @@ fn random(number: u64, tally: &mut Tally) -> Result<(), Disagreed> {
     if rng.below(4) == 0 {
         let input = set_aside(|| random_set(&mut rng, &file));
         compare(&Call::new(Kind::Set, &input), tally)?;
+    }
+    compare_explained_after_check(&file, &check, &mut rng, tally)?;
+    if rng.below(8) == 0 {
+        let input = set_aside(|| stopped_file(&mut rng));
+        compare_explained(&input, &mut rng, tally)?;
     }
     Ok(())
 }

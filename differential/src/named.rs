@@ -1,5 +1,5 @@
-//! Document 01's examples, the readings of kind 3, of printing, of counting, of couples and of sets, and inputs just within a
-//! limit and just beyond it, each with its answer written out.
+//! Document 01's examples, the readings of kind 3, of printing, of counting, of couples, of sets and of explaining, and inputs just
+//! within a limit and just beyond it, each with its answer written out.
 //!
 //! Every state's size is odd: an item counts 1 and a term, whose size is odd. So 8,192 bytes is no state's size, and 8,191 and
 //! 8,193 are the neighbours of that limit; 4,095 and 4,097 those of a compared body's. While B is the term's own text, R, W and
@@ -9,9 +9,10 @@
 use crate::call::{Call, Kind};
 use reference::file::Group;
 use reference::frame::{Step, LOCAL, REMOVAL, SUBSTITUTION};
-use reference::gen::{all_four, coupled_copies, coupled_scopes, empty_groups, field, file, files_for, nested, nested_couples};
-use reference::gen::{set, shelf, stepped_copies, substituted_copies, substituted_scopes, times};
+use reference::gen::{all_four, coupled_copies, coupled_scopes, empty_groups, field, file, files_for, long_unfolding, nested};
+use reference::gen::{nested_couples, set, shelf, stepped_copies, substituted_copies, substituted_scopes, times};
 use reference::rng::Rng;
+use std::collections::BTreeSet;
 
 pub struct Named {
     pub name: &'static str,
@@ -20,8 +21,10 @@ pub struct Named {
     pub file: Option<u64>,
     /// What is expected; none for the answer 'none'.
     pub numbers: Option<[u64; 4]>,
-    /// What the call writes at the start of the lent buffer, where it is written out here: nothing at a refusal.
-    pub written: Option<Vec<u8>>,
+    /// The last four numbers of explaining.
+    pub ground: Option<[u64; 4]>,
+    /// What the call writes at the start of each lent buffer, where it is written out here: nothing at a refusal.
+    pub written: Option<Vec<Vec<u8>>>,
 }
 
 /// The four numbers of a check.
@@ -30,25 +33,63 @@ type Numbers = (u64, usize, u64, u64);
 struct Table(Vec<Named>);
 
 impl Table {
+    fn add(&mut self, name: &'static str, call: Call, numbers: Option<[u64; 4]>) -> &mut Named {
+        self.0.push(Named { name, call, file: None, numbers, ground: None, written: None });
+        self.0.last_mut().expect("just added")
+    }
+
     fn check(&mut self, name: &'static str, file: Vec<u8>, (number, place, comparisons, degree): Numbers) {
-        let numbers = Some([number, place as u64, comparisons, degree]);
-        self.0.push(Named { name, call: Call::new(Kind::Check, &file), file: None, numbers, written: None });
+        self.add(name, Call::new(Kind::Check, &file), Some([number, place as u64, comparisons, degree]));
     }
 
     /// Examining a file: number, place, and the part's start and end.
     fn examine(&mut self, name: &'static str, file: &[u8], numbers: [u64; 4]) {
-        self.0.push(Named { name, call: Call::new(Kind::File, file), file: None, numbers: Some(numbers), written: None });
+        self.add(name, Call::new(Kind::File, file), Some(numbers));
     }
 
     /// Counting: number, accepted, refused 3, refused 5.
     fn count(&mut self, name: &'static str, length: usize, numbers: [u64; 4]) {
-        self.0.push(Named { name, call: Call::new(Kind::Count(length), &[]), file: None, numbers: Some(numbers), written: None });
+        self.add(name, Call::new(Kind::Count(length), &[]), Some(numbers));
     }
 
     /// A set: the file number, and the four numbers.
     fn set(&mut self, name: &'static str, set: &[u8], file: u64, (number, place, comparisons, degree): Numbers) {
         let numbers = Some([number, place as u64, comparisons, degree]);
-        self.0.push(Named { name, call: Call::new(Kind::Set, set), file: Some(file), numbers, written: None });
+        self.add(name, Call::new(Kind::Set, set), numbers).file = Some(file);
+    }
+
+    /// Explaining, with buffers of these lengths: the four numbers and three more. Nothing is written.
+    fn explain(&mut self, name: &'static str, file: &[u8], lent: [usize; 2], numbers: Numbers, [a, b, c]: [u64; 3]) -> &mut Named {
+        let (number, place, comparisons, degree) = numbers;
+        let call = Call::explaining(file, lent, &mut Rng::new(0));
+        let named = self.add(name, call, Some([number, place as u64, comparisons, degree]));
+        named.ground = Some([a, b, c, 0]);
+        named.written = Some(Vec::new());
+        named
+    }
+
+    /// The same with buffers that have room for something, and with empty ones.
+    fn ground(&mut self, name: &'static str, file: &[u8], numbers: Numbers, ground: [u64; 3]) {
+        for lent in [[20, 30], [0, 0]] {
+            self.explain(name, file, lent, numbers, ground);
+        }
+    }
+
+    /// An explained 12: place, comparisons and degree, the two bodies, and where they differ. The buffers have all lengths about
+    /// those of the bodies, so that there is 14 too.
+    fn bodies(&mut self, name: &'static str, file: &[u8], check: (usize, u64, u64), bodies: [&[u8]; 2], difference: u64) {
+        let (place, comparisons, degree) = check;
+        let [m, n] = bodies.map(<[u8]>::len);
+        let about = |length: usize| BTreeSet::from([0, length - 1, length, length + 1, 5_000]);
+        for (l, r) in about(m).into_iter().flat_map(|l| about(n).into_iter().map(move |r| (l, r))) {
+            if l < m || r < n {
+                self.explain(name, file, [l, r], (14, 0, comparisons, degree), [0; 3]);
+            } else {
+                let ground = [m as u64, n as u64, difference];
+                let named = self.explain(name, file, [l, r], (12, place, comparisons, degree), ground);
+                named.written = Some(bodies.map(<[u8]>::to_vec).to_vec());
+            }
+        }
     }
 
     /// A file with empty groups.
@@ -60,14 +101,14 @@ impl Table {
     fn bare(&mut self, name: &'static str, kind: Kind, term: &[u8], lent: usize, numbers: Option<(u64, usize, u64)>) {
         let numbers = numbers.map(|(number, place, third)| [number, place as u64, third, 0]);
         let accepted = numbers.is_some_and(|numbers| numbers[0] == 0);
-        let written = (!accepted).then(Vec::new);
-        self.0.push(Named { name, call: Call::lending(kind, term, lent, &mut Rng::new(0)), file: None, numbers, written });
+        let call = Call::lending(kind, term, lent, &mut Rng::new(0));
+        self.add(name, call, numbers).written = (!accepted).then(Vec::new);
     }
 
     /// The same with the result written out; it is accepted.
     fn result(&mut self, name: &'static str, kind: Kind, term: &[u8], lent: usize, written: &[u8]) {
         self.bare(name, kind, term, lent, Some((0, 0, written.len() as u64)));
-        self.0.last_mut().expect("just added").written = Some(written.to_vec());
+        self.0.last_mut().expect("just added").written = Some(vec![written.to_vec()]);
     }
 }
 
@@ -122,6 +163,10 @@ pub fn named() -> Vec<Named> {
     couples_at_limits(&mut table);
     couples_in_files(&mut table);
     sets(&mut table);
+    explained(&mut table);
+    explained_steps(&mut table);
+    explained_waiting(&mut table);
+    explained_bodies(&mut table);
     table.0
 }
 
@@ -889,6 +934,36 @@ fn couples_in_files(t: &mut Table) {
     }
 }
 
+/// The refused files of the shelf, with the numbers of their check and what explaining adds.
+fn refusals() -> impl Iterator<Item = (&'static Vec<u8>, Numbers, [u64; 3])> {
+    let answers: [(Numbers, [u64; 3]); 22] = [
+        ((1, 0, 0, 0), [0; 3]),
+        ((1, 0, 0, 0), [0; 3]),
+        ((2, 0, 0, 0), [0; 3]),
+        ((2, 0, 0, 0), [0; 3]),
+        ((3, 2, 0, 0), [0; 3]),
+        ((4, 0, 0, 0), [0; 3]),
+        ((5, 2, 0, 0), [0; 3]),
+        ((6, 506, 0, 0), [0; 3]),
+        ((7, 0, 0, 1), [0; 3]),
+        ((7, 18, 4, 1), [0; 3]),
+        ((8, 0, 0, 1), [1, 0, 0]),
+        ((8, 10, 2, 1), [1, 0, 0]),
+        ((9, 4, 0, 3), [0; 3]),
+        ((9, 8, 1, 3), [0; 3]),
+        ((10, 4, 0, 3), [1, 0, 1]),
+        ((10, 8, 1, 3), [1, 0, 1]),
+        ((11, 508, 0, 2), [0; 3]),
+        ((11, 514, 3, 2), [0; 3]),
+        ((12, 4, 0, 2), [1, 1, 0]),
+        ((12, 8, 1, 3), [1, 1, 0]),
+        ((13, 4, 0, 1), [0; 3]),
+        ((13, 18, 1, 3), [0; 3]),
+    ];
+    assert_eq!(shelf().refused.len(), answers.len());
+    shelf().refused.iter().zip(answers).map(|(file, (numbers, ground))| (file, numbers, ground))
+}
+
 /// Sets: the readings E1 to E6, heads, cuts, lengths, and each number as the answer of a file of the set.
 fn sets(t: &mut Table) {
     const NOT_A_SET: u64 = 16;
@@ -953,38 +1028,276 @@ fn sets(t: &mut Table) {
     t.set("2,047 deep, twice", &set(&[&deep, &tau, &deep]), 3, (0, 0, 0, 0));
 
     // After E3, with two comparisons, and before one more file that is refused, with 5.
-    let answers: [Numbers; 22] = [
-        (1, 0, 0, 0),
-        (1, 0, 0, 0),
-        (2, 0, 0, 0),
-        (2, 0, 0, 0),
-        (3, 2, 0, 0),
-        (4, 0, 0, 0),
-        (5, 2, 0, 0),
-        (6, 506, 0, 0),
-        (7, 0, 0, 1),
-        (7, 18, 4, 1),
-        (8, 0, 0, 1),
-        (8, 10, 2, 1),
-        (9, 4, 0, 3),
-        (9, 8, 1, 3),
-        (10, 4, 0, 3),
-        (10, 8, 1, 3),
-        (11, 508, 0, 2),
-        (11, 514, 3, 2),
-        (12, 4, 0, 2),
-        (12, 8, 1, 3),
-        (13, 4, 0, 1),
-        (13, 18, 1, 3),
-    ];
-    assert_eq!(shelf().refused.len(), answers.len());
     let e3 = [0xff, 0, 0xff, 1, 0xfe, 2, 0xff, 0, 0xfe, 2, 0xff, 1, 1];
     let e3 = file(&e3, &[no_steps(), group(vec![], local(0))]);
     let unbound = file(&[1], &[]);
-    for (refused, numbers) in shelf().refused.iter().zip(answers) {
+    for (refused, numbers, _) in refusals() {
         t.set("each refusal, first", &set(&[refused, &e3, &unbound]), 0, numbers);
         t.set("each refusal, second", &set(&[&e3, refused, &unbound]), 1, numbers);
         t.set("each refusal, third", &set(&[&e3, &tau, refused]), 2, numbers);
         t.set("each refusal, a head after it", &joined(&[&set(&[&e3, refused]), &[5]]), 0, (NOT_A_SET, 37 + refused.len(), 0, 0));
     }
+}
+
+/// The readings G1 to G5.
+fn explained(t: &mut Table) {
+    let e2 = [0xff, 0, 0xff, 1, 0xfe, 1, 0xff, 2, 1];
+    let differing = file(&[0xff, 0, 0xff, 1, 0xfe, 1, 0xff, 0, 1], &empty_groups(1));
+    t.bodies("G1: condition 12, and G2", &differing, (4, 0, 2), [&[2], &[0]], 0);
+    let inside = file(&[0xff, 0, 0xff, 0xff, 1, 0, 0xfe, 1, 0xff, 0xff, 0, 0, 0], &empty_groups(1));
+    t.bodies("G1: a difference inside, and G2", &inside, (6, 0, 1), [&[0xff, 2, 0], &[0xff, 0, 0]], 1);
+
+    let left = |kind: u8, place: usize| file(&e2, &[group(vec![Step { kind, place }], vec![])]);
+    t.ground("G3: kind", &left(9, 65_535), (10, 4, 0, 3), [0, 0, KIND]);
+    t.ground("G3: place", &left(LOCAL, 1), (10, 4, 0, 3), [0, 0, PLACE]);
+    t.ground("G3: byte", &left(REMOVAL, 0), (10, 4, 0, 3), [0, 0, BYTE]);
+    t.ground("G3: no partner", &left(LOCAL, 0), (10, 4, 0, 3), [0, 0, NO_PARTNER]);
+    // [p:τ][a:p]⟨a⟩[⟨p⟩[q:τ]q]1.
+    let pair = [0xff, 0, 0xff, 1, 0xfe, 1, 0xff, 0xfe, 2, 0xff, 0, 1, 1];
+    let right = |steps: Vec<Step>| file(&pair, &[no_steps(), group(vec![], steps)]);
+    t.ground("G3: still used", &right(removal(0)), (10, 4, 1, 3), [1, 0, STILL_USED]);
+    t.ground("G3: byte, on the right", &right(local(3)), (10, 4, 1, 3), [1, 0, BYTE]);
+    t.ground("G3: the third step", &right([local(4), removal(0), removal(0)].concat()), (10, 4, 1, 3), [1, 2, BYTE]);
+    let both = file(&pair, &[no_steps(), group(local(1), removal(0))]);
+    t.ground("the left steps first", &both, (10, 4, 1, 3), [0, 0, PLACE]);
+    let of_two = file(&pair, &[group(vec![], removal(0)), group(local(1), vec![])]);
+    t.ground("the first group first", &of_two, (10, 7, 0, 3), [1, 0, BYTE]);
+
+    t.ground("G4: two wait", &file(&[0xfe, 0, 0xfe, 0, 0], &[]), (8, 2, 0, 1), [2, 0, 0]);
+    t.ground("G4: one waits", &file(&[0xfe, 0, 0], &[]), (8, 0, 0, 1), [1, 0, 0]);
+    t.ground("G5: accepted", &file(&e2, &empty_groups(1)), (0, 0, 1, 3), [0; 3]);
+    for (refused, numbers, ground) in refusals().filter(|(_, numbers, _)| numbers.0 != 12) {
+        t.ground("G5: each refusal", refused, numbers, ground);
+    }
+    for length in 0..differing.len() {
+        let numbers = match length {
+            0..=11 => (1, 0, 0, 0),
+            12 => (9, 4, 0, 2),
+            13..=14 => (1, 12, 0, 0),
+            _ => (1, 15, 0, 0),
+        };
+        t.ground("G5: condition 12 cut", &differing[..length], numbers, [0; 3]);
+    }
+}
+
+const KIND: u64 = 1;
+const PLACE: u64 = 2;
+const BYTE: u64 = 3;
+const NO_PARTNER: u64 = 4;
+const STILL_USED: u64 = 5;
+
+/// Every condition on both sides, for every kind, at the first step and later. The term is [p:τ] and then [z:T]⟨z⟩[T]τ, so that
+/// both bodies are T.
+fn explained_steps(t: &mut Table) {
+    let step = |kind: u8, place: usize| vec![Step { kind, place }];
+    // The term's items after [p:τ], T as it stands there and as it stands after z; the steps; the number and the condition.
+    let mut unmet = |items: &[u8], t1: &[u8], t2: &[u8], steps: Vec<Step>, number: u64, condition: u64| {
+        let term = joined(&[&[0xff, 0], items, &[0xff], t1, &[0xfe, 1, 0xff], t2, &[0]]);
+        let compared = 2 * t1.iter().filter(|byte| **byte == 0xfe).count();
+        let numbers = (10, 3 + items.len() + t1.len(), compared as u64, 1);
+        for (side, last) in [group(steps.clone(), vec![]), group(vec![], steps)].into_iter().enumerate() {
+            let groups = [empty_groups(compared), vec![last]].concat();
+            t.ground("a condition on either side", &file(&term, &groups), numbers, [side as u64, number, condition]);
+        }
+    };
+    // ⟨p⟩[τ]1: kinds 1 and 3 can be applied at 4 and at 0.
+    let (pair, after) = ([0xfe, 1, 0xff, 0, 1], [0xfe, 2, 0xff, 0, 1]);
+    for kind in [0, 4, 5, 9, 127, 128, 255] {
+        for place in [0, 4, 5, 65_535] {
+            unmet(&[], &pair, &after, step(kind, place), 0, KIND);
+        }
+        unmet(&[], &pair, &after, [local(4), step(kind, 0)].concat(), 1, KIND);
+        unmet(&[], &pair, &after, [local(4), removal(0), step(kind, 1)].concat(), 2, KIND);
+    }
+    for kind in [LOCAL, REMOVAL, SUBSTITUTION] {
+        for place in [5, 6, 255, 256, 1_024, 65_535] {
+            unmet(&[], &pair, &after, step(kind, place), 0, PLACE);
+        }
+        unmet(&[], &pair, &after, [whole(0), step(kind, 1)].concat(), 1, PLACE);
+        unmet(&[], &pair, &after, [local(4), removal(0), step(kind, 4)].concat(), 2, PLACE);
+        let not_there: &[usize] = if kind == LOCAL { &[0, 2, 3] } else { &[1, 2, 3, 4] };
+        for place in not_there {
+            unmet(&[], &pair, &after, step(kind, *place), 0, BYTE);
+            unmet(&[], &pair, &after, [local(4), step(kind, *place)].concat(), 1, BYTE);
+        }
+    }
+    for kind in [REMOVAL, SUBSTITUTION] {
+        unmet(&[], &pair, &after, [whole(0), step(kind, 0)].concat(), 1, BYTE);
+        unmet(&[], &pair, &after, [local(4), removal(0), step(kind, 0)].concat(), 2, BYTE);
+    }
+    // τ alone, and p alone: the byte before the partner.
+    unmet(&[], &[0], &[0], local(0), 0, BYTE);
+    unmet(&[], &[1], &[2], local(0), 0, NO_PARTNER);
+    for kind in [REMOVAL, SUBSTITUTION] {
+        unmet(&[], &[0], &[0], step(kind, 0), 0, BYTE);
+        unmet(&[], &[1], &[2], step(kind, 0), 0, BYTE);
+        unmet(&[], &[0xff, 1, 1], &[0xff, 2, 1], step(kind, 0), 0, BYTE);
+    }
+    // p is single in the frame, and [p]1 in the body.
+    unmet(&[], &pair, &after, local(1), 0, NO_PARTNER);
+    unmet(&[], &pair, &after, [local(4), local(4)].concat(), 1, NO_PARTNER);
+    unmet(&[], &pair, &after, [local(4), removal(0), local(0)].concat(), 2, NO_PARTNER);
+    unmet(&[], &[0xff, 1, 1], &[0xff, 2, 1], local(2), 0, NO_PARTNER);
+    // [a:p][f:[p]τ] and T = ⟨a⟩f, whose applicator goes with no abstractor of the body.
+    let items = [0xff, 1, 0xff, 0xff, 2, 0];
+    for kind in [REMOVAL, SUBSTITUTION] {
+        unmet(&items, &[0xfe, 2, 1], &[0xfe, 3, 2], step(kind, 0), 0, NO_PARTNER);
+    }
+    unmet(&items, &[0xfe, 2, 1], &[0xfe, 3, 2], local(2), 0, NO_PARTNER);
+    unmet(&[], &pair, &after, removal(0), 0, STILL_USED);
+    // ⟨p⟩⟨p⟩[τ][τ]1: the outer couple is used.
+    let (nested, after) = ([0xfe, 1, 0xfe, 1, 0xff, 0, 0xff, 0, 1], [0xfe, 2, 0xfe, 2, 0xff, 0, 0xff, 0, 1]);
+    unmet(&[], &nested, &after, removal(0), 0, STILL_USED);
+    unmet(&[], &nested, &after, [removal(2), removal(0)].concat(), 1, STILL_USED);
+    unmet(&[], &nested, &after, [removal(2), removal(2)].concat(), 1, BYTE);
+    unmet(&[], &nested, &after, [local(8), removal(0), local(4)].concat(), 2, NO_PARTNER);
+    // Used in a later K or U.
+    unmet(&[], &[0xfe, 1, 0xff, 0, 0xff, 1, 0], &[0xfe, 2, 0xff, 0, 0xff, 1, 0], removal(0), 0, STILL_USED);
+    let (in_k, after) = ([0xfe, 1, 0xff, 0, 0xfe, 1, 0xff, 0, 0], [0xfe, 2, 0xff, 0, 0xfe, 1, 0xff, 0, 0]);
+    unmet(&[], &in_k, &after, removal(0), 0, STILL_USED);
+    unmet(&[], &in_k, &after, [removal(4), removal(0), removal(0)].concat(), 2, BYTE);
+
+    // [a:τ][f:[τ]1]⟨a⟩⟨f⟩[[τ]1]1.
+    let waiting = [0xff, 0, 0xff, 0xff, 0, 1, 0xfe, 2, 0xfe, 1, 0xff, 0xff, 0, 1, 1];
+    let steps = |left: Vec<Step>, right: Vec<Step>| file(&waiting, &[group(left, right), no_steps()]);
+    t.ground("D4: W takes no part", &steps(local(2), local(2)), (10, 8, 0, 3), [0, 0, NO_PARTNER]);
+    t.ground("D4: W takes no part on the right", &steps(vec![], local(2)), (10, 8, 0, 3), [1, 0, NO_PARTNER]);
+    // [a:τ]⟨a⟩[b:τ][g:[τ]1]⟨g⟩[[τ]1]τ.
+    let paired = [0xff, 0, 0xfe, 1, 0xff, 0, 0xff, 0xff, 0, 1, 0xfe, 1, 0xff, 0xff, 0, 1, 0];
+    let frame = file(&paired, &[no_steps(), group(local(2), vec![])]);
+    t.ground("D4: the frame takes no part", &frame, (10, 10, 1, 1), [0, 0, NO_PARTNER]);
+    // [p:τ][a:p][f:[p]τ] and T = ⟨a⟩⟨a⟩[p]f.
+    let items = [0xff, 1, 0xff, 0xff, 2, 0];
+    let (t1, t2) = ([0xfe, 2, 0xfe, 2, 0xff, 3, 2], [0xfe, 3, 0xfe, 3, 0xff, 4, 3]);
+    let term = joined(&[&[0xff, 0], &items, &[0xff], &t1, &[0xfe, 1, 0xff], &t2, &[0]]);
+    for kind in [removal, whole] {
+        for (side, last) in [group(kind(0), vec![]), group(vec![], kind(0))].into_iter().enumerate() {
+            let groups = [empty_groups(4), vec![last]].concat();
+            t.ground("D5: nothing left to match", &file(&term, &groups), (10, 16, 4, 1), [side as u64, 0, NO_PARTNER]);
+        }
+    }
+    // [p:τ][a:p] and T = ⟨a⟩⟨p⟩[b:τ][b]τ; the U of ⟨a⟩ is p by a step.
+    let (t1, t2) = ([0xfe, 1, 0xfe, 2, 0xff, 0, 0xff, 1, 0], [0xfe, 2, 0xfe, 3, 0xff, 0, 0xff, 1, 0]);
+    let term = joined(&[&[0xff, 0, 0xff, 1, 0xff], &t1, &[0xfe, 1, 0xff], &t2, &[0]]);
+    let of_t = [no_steps(), group(vec![], local(0))];
+    let with = |left: Vec<Step>, right: Vec<Step>| file(&term, &[&of_t[..], &of_t[..], &[group(left, right)]].concat());
+    t.ground("D5: used in the outer U", &with(removal(2), vec![]), (10, 14, 4, 1), [0, 0, STILL_USED]);
+    t.ground("D5: used in the outer U, right", &with(vec![], removal(2)), (10, 14, 4, 1), [1, 0, STILL_USED]);
+    let reached: [&[u8]; 2] = [&[0xfe, 2, 0xff, 3, 0], &[0xfe, 3, 0xff, 0, 0]];
+    t.bodies("D5: substituted, and the outer couple removed", &with(whole(2), removal(0)), (14, 4, 1), reached, 1);
+    // E3 with kind 3 on a frame pair's variable.
+    let e3 = [0xff, 0, 0xff, 1, 0xfe, 2, 0xff, 0, 0xfe, 2, 0xff, 1, 1];
+    t.ground("A3", &file(&e3, &[no_steps(), group(vec![], whole(0))]), (10, 8, 1, 3), [1, 0, BYTE]);
+    // [p:τ][a:p][f:[p][p]p]⟨⟨a⟩⟨a⟩f⟩[p]τ: ⟨a⟩⟨a⟩[p][p]p on the left, and nothing left to match after one step (D5).
+    let copied = [0xff, 0, 0xff, 1, 0xff, 0xff, 2, 0xff, 3, 4, 0xfe, 0xfe, 2, 0xfe, 2, 1, 0xff, 3, 0];
+    for kind in [removal, whole] {
+        let twice = file(&copied, &[no_steps(), no_steps(), group([kind(0), kind(2)].concat(), vec![])]);
+        t.ground("D6: nothing at 2 is left", &twice, (10, 10, 2, 1), [0, 1, BYTE]);
+    }
+
+    // In a comparison of copied text: [p:τ][f:[p]τ][a:p]⟨a⟩f compares p with p, of one byte, at f's abstractor.
+    let in_copy = [0xff, 0, 0xff, 0xff, 1, 0, 0xff, 2, 0xfe, 1, 2];
+    for (place, condition) in [(0, NO_PARTNER), (1, PLACE)] {
+        let left = file(&in_copy, &[group(local(place), vec![])]);
+        t.ground("in copied text, left", &left, (10, 8, 0, 2), [0, 0, condition]);
+        let right = file(&in_copy, &[group(vec![], local(place))]);
+        t.ground("in copied text, right", &right, (10, 8, 0, 2), [1, 0, condition]);
+    }
+
+    // 5,000 steps that can be applied.
+    let (term, mut groups) = long_unfolding(50, 100);
+    groups[50].left.extend(removal(0));
+    let compared = 50;
+    let place = 2 + 4 * 50 + 1 + 199;
+    t.ground("after 5,000 steps", &file(&term, &groups), (10, place, compared, 3), [0, 5_000, BYTE]);
+    groups[50].left.pop();
+    groups[50].right.extend(removal(199));
+    t.ground("after 5,000 steps on the other side", &file(&term, &groups), (10, place, compared, 3), [1, 0, PLACE]);
+    // A body of 4,097 bytes comes after the step, and before the next.
+    let (term, mut groups) = stepped_copies(16, 255);
+    groups[1].left.extend(step(9, 0));
+    t.ground("outgrown before a bad step", &file(&term, &groups), (11, 2 + 2 * 256 + 34, 1, 2), [0; 3]);
+}
+
+/// How many wait: those of W at τ, and none of another state's.
+fn explained_waiting(t: &mut Table) {
+    let mut plain = |name: &'static str, term: &[u8], groups: usize, numbers: Numbers, many: u64| {
+        t.ground(name, &file(term, &empty_groups(groups)), numbers, [many, 0, 0]);
+    };
+    let applied = |n: usize, end: &[u8]| joined(&[&times(n, &[0xfe, 0]), end]);
+    for n in [1, 2, 3, 17, 255, 256, 1_000, 2_047] {
+        plain("in the term's own text", &applied(n, &[0]), 0, (8, 2 * n - 2, 0, 1), n as u64);
+    }
+    for n in [1, 2, 3, 17, 255, 256, 1_000, 2_046] {
+        let term = joined(&[&[0xff, 0], &applied(n, &[1])]);
+        plain("in copied text", &term, 0, (8, 2 * n, 0, 2), n as u64);
+    }
+    plain("2,047 in each other", &joined(&[&[0xfe; 2_047], &[0; 2_048]]), 0, (8, 2_046, 0, 1), 1);
+    plain("in a K, one before it", &[0xfe, 0, 0xfe, 0xfe, 0, 0, 0], 0, (8, 3, 0, 1), 1);
+    plain("in a K, two before it", &[0xfe, 0, 0xfe, 0, 0xfe, 0xfe, 0, 0xfe, 0, 0, 0], 0, (8, 7, 0, 1), 2);
+    plain("in a U, two before it", &[0xfe, 0, 0xfe, 0, 0xff, 0xfe, 0, 0, 0], 0, (8, 5, 0, 1), 1);
+    plain("in a U, copied", &[0xff, 0, 0xfe, 1, 0xff, 0xfe, 1, 0xfe, 1, 0xfe, 1, 1, 0], 0, (8, 9, 0, 1), 3);
+    plain("one is taken", &[0xff, 0, 0xfe, 1, 0xfe, 1, 0xff, 0, 0], 1, (8, 2, 1, 1), 1);
+    plain("two of five are taken", &joined(&[&[0xff, 0], &times(5, &[0xfe, 1]), &declarations(2), &[0]]), 2, (8, 6, 2, 1), 3);
+    // [p:τ][f:[τ][τ]τ]⟨p⟩..f: two are taken by copied abstractors.
+    let f = [0xff, 0, 0xff, 0xff, 0, 0xff, 0, 0];
+    for n in [3, 4, 20] {
+        let term = joined(&[&f, &times(n, &[0xfe, 2]), &[1]]);
+        plain("two are taken in copied text", &term, 2, (8, 8 + 2 * (n - 3), 2, 2), n as u64 - 2);
+    }
+    // [p:τ][f:[τ]τ][g:⟨p⟩f]⟨p⟩⟨p⟩g: the copied ⟨p⟩ goes with the copied [τ], and both of W wait.
+    let g = [0xff, 0, 0xff, 0xff, 0, 0, 0xff, 0xfe, 2, 1, 0xfe, 3, 0xfe, 3, 1];
+    plain("none is taken where Y has one", &g, 1, (8, 12, 1, 3), 2);
+    let (term, groups) = all_four(509, 1_015);
+    t.ground("8,191 bytes: R, W, Y and B", &file(&term, &groups), (8, 2_060, 3, 3), [1, 0, 0]);
+    let (term, groups) = all_four(509, 1_016);
+    t.ground("8,193 bytes: R, W, Y and B", &file(&term, &groups), (11, 4_094, 3, 3), [0; 3]);
+}
+
+/// The bodies of 12 as the steps reach them.
+fn explained_bodies(t: &mut Table) {
+    // [p:τ][z:T]⟨z⟩[T]τ with T = ⟨p⟩[τ][1]2.
+    let term = [0xff, 0, 0xff, 0xfe, 1, 0xff, 0, 0xff, 1, 2, 0xfe, 1, 0xff, 0xfe, 2, 0xff, 0, 0xff, 1, 2, 0];
+    let with = |left: Vec<Step>, right: Vec<Step>| file(&term, &[no_steps(), no_steps(), group(left, right)]);
+    let body = |u: u8, v: u8| [0xfe, 2, 0xff, 0, 0xff, u, v];
+    let substituted = [0xff, 2, 3];
+    let at = (10, 2, 1);
+    t.bodies("a left step", &with(local(5), vec![]), at, [&body(3, 2), &body(1, 2)], 5);
+    t.bodies("a right step", &with(vec![], local(5)), at, [&body(1, 2), &body(3, 2)], 5);
+    t.bodies("the last byte", &with(vec![], local(6)), at, [&body(1, 2), &body(1, 4)], 6);
+    t.bodies("two differences", &with(local(5), local(6)), at, [&body(3, 2), &body(1, 4)], 5);
+    t.bodies("two left steps", &with([local(6), local(5)].concat(), vec![]), at, [&body(3, 4), &body(1, 2)], 5);
+    t.bodies("a shorter left body", &with(whole(0), vec![]), at, [&substituted, &body(1, 2)], 0);
+    let parts = [local(6), local(5), removal(0)].concat();
+    t.bodies("a shorter right body", &with(local(6), parts), at, [&body(1, 4), &substituted], 0);
+    // E4.
+    let e3 = [0xff, 0, 0xff, 1, 0xfe, 2, 0xff, 0, 0xfe, 2, 0xff, 1, 1];
+    t.bodies("E4", &file(&e3, &empty_groups(2)), (8, 1, 3), [&[3], &[1]], 0);
+    // [p:τ][a:p][f:[p][p]p]⟨⟨a⟩⟨a⟩f⟩[p]τ.
+    let copied = [0xff, 0, 0xff, 1, 0xff, 0xff, 2, 0xff, 3, 4, 0xfe, 0xfe, 2, 0xfe, 2, 1, 0xff, 3, 0];
+    let steps = |left: Vec<Step>| file(&copied, &[no_steps(), no_steps(), group(left, vec![])]);
+    t.bodies("D6: the type of K", &steps(vec![]), (10, 2, 1), [&[0xfe, 2, 0xfe, 2, 0xff, 3, 0xff, 4, 5], &[3]], 0);
+    t.bodies("D6: the outer couple alone", &steps(whole(0)), (10, 2, 1), [&[0xfe, 2, 0xff, 3, 4], &[3]], 0);
+    let defined = [0xff, 0, 0xff, 1, 0xfe, 1, 0xff, 0xfe, 2, 0xfe, 2, 0xff, 0, 0xff, 0, 1, 0];
+    let steps = |right: Vec<Step>| file(&defined, &[no_steps(), no_steps(), group(vec![], right)]);
+    t.bodies("D7: no step", &steps(vec![]), (4, 2, 1), [&[2], &[0xfe, 2, 0xfe, 2, 0xff, 0, 0xff, 0, 1]], 0);
+    t.bodies("D7: the outer couple alone", &steps(whole(0)), (4, 2, 1), [&[2], &[0xfe, 2, 0xff, 0, 3]], 0);
+    // [p:τ][f:[p]τ][a:τ]⟨a⟩f: compared in copied text.
+    let in_copy = [0xff, 0, 0xff, 0xff, 1, 0, 0xff, 0, 0xfe, 1, 2];
+    t.bodies("in copied text", &file(&in_copy, &empty_groups(1)), (8, 0, 2), [&[0], &[3]], 0);
+
+    // ⟨[V]1⟩[τ]τ: a type of 4,095 bytes.
+    let v = nested(1_023);
+    let typed = joined(&[&[0xfe, 0xff], &v, &[1, 0xff, 0, 0]]);
+    t.bodies("a left body of 4,095 bytes", &file(&typed, &empty_groups(1)), (0, 0, 1), [&joined(&[&[0xff], &v, &v]), &[0]], 0);
+    // [D][D]..τ, D of 177 bytes replaced 23 times: 4,095 bytes.
+    let (term, groups) = stepped_copies(23, 177);
+    let steps = &groups[1].left;
+    let place = 2 + 2 * 178 + 48;
+    let copies: Vec<u8> = (0..23).flat_map(|d| joined(&[&[0xff, 0xff], &nested(87), &[4 + d]])).collect();
+    let (all, but_one) = (joined(&[&copies, &[0]]), joined(&[&copies[..22 * 178], &[0xff, 24, 0]]));
+    let none: Vec<u8> = (0..23).flat_map(|d| [0xff, 2 + d]).chain([0]).collect();
+    let end = |left: &[Step], right: &[Step]| file(&term, &[no_steps(), group(left.to_vec(), right.to_vec())]);
+    t.bodies("4,095 bytes on the left", &end(steps, &steps[..22]), (place, 1, 2), [&all, &but_one], 22 * 178 + 1);
+    t.bodies("4,095 bytes on the right", &end(&[], steps), (place, 1, 2), [&none, &all], 1);
 }

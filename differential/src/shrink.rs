@@ -3,9 +3,11 @@
 use crate::call::{Call, Kind};
 use reference::file::{read_fields, Group};
 use reference::gen::{field, fields_of, file};
+use reference::mistakes::set_aside;
 use reference::page::page_length;
 use reference::term::Term::{Abs, App, Tau, Var};
 use reference::term::{abs, app, end_of_term, read_term, Term};
+use reference::{explain, Report};
 use std::panic::set_hook;
 use std::time::{Duration, Instant};
 
@@ -138,13 +140,41 @@ fn less_of_set(bytes: &[u8], found: impl Fn(Vec<u8>) -> Option<Call>) -> Option<
     fewer().or_else(less).or_else(|| shorter(bytes).find_map(&found))
 }
 
-/// The call with less of its input or buffer.
+/// How long the bodies are that Explain writes for the file.
+fn bodies(file: &[u8]) -> [usize; 2] {
+    match set_aside(|| explain(file, &mut [0; 4_096], &mut [0; 4_096])).report {
+        Report::Bodies { left, right, .. } => [left, right],
+        _ => [0, 0],
+    }
+}
+
+/// The call with a shorter input: first as it may have to be changed with it, since what was left out may have stood before the
+/// step's place, or the buffers be about as long as what is written.
+fn with_input(call: &Call, input: Vec<u8>) -> Vec<Call> {
+    let bytes = call.input.len() - input.len();
+    let same = Call { input, ..call.clone() };
+    let by = |fewer: &[usize]| {
+        let lengths = call.lent().into_iter().zip(fewer).map(|(length, fewer)| length.saturating_sub(*fewer));
+        same.with_zeros(&lengths.collect::<Vec<_>>())
+    };
+    let changed = match call.kind {
+        Kind::Step(kind, place) => Call { kind: Kind::Step(kind, place.saturating_sub(bytes as u16)), ..same.clone() },
+        Kind::Print => by(&[page_length(call.input.len()) - page_length(same.input.len())]),
+        Kind::Explain => {
+            let (before, after) = (bodies(&call.input), bodies(&same.input));
+            by(&[0, 1].map(|side| before[side].saturating_sub(after[side])))
+        }
+        _ => return vec![same],
+    };
+    vec![changed, same]
+}
+
+/// The call with less of its input or of a buffer.
 fn with_less(call: &Call, differs: impl Fn(&Call) -> bool) -> Option<Call> {
-    let with_input = |input: Vec<u8>| Call { input, ..call.clone() };
-    let found = |input: Vec<u8>| Some(with_input(input)).filter(&differs);
+    let found = |input: Vec<u8>| with_input(call, input).into_iter().find(&differs);
     match call.kind {
         Kind::Set => return less_of_set(&call.input, found),
-        Kind::File | Kind::Check => {
+        Kind::File | Kind::Check | Kind::Explain => {
             let smaller = less_of_file(&call.input, found);
             if smaller.is_some() {
                 return smaller;
@@ -152,19 +182,15 @@ fn with_less(call: &Call, differs: impl Fn(&Call) -> bool) -> Option<Call> {
         }
         _ => {}
     }
-    let inputs = smaller_terms(&call.input).flat_map(|input| {
-        // What was left out may have stood before the step's place, or the buffer be about as long as the page.
-        let bytes = call.input.len() - input.len();
-        let page = page_length(call.input.len()) - page_length(input.len());
-        let smaller = with_input(input);
-        let moved = match call.kind {
-            Kind::Step(kind, place) => Call { kind: Kind::Step(kind, place.saturating_sub(bytes as u16)), ..smaller.clone() },
-            Kind::Print => smaller.with_zeros(call.lent().saturating_sub(page)),
-            _ => smaller.clone(),
-        };
-        [moved, smaller]
+    let lengths = call.lent();
+    let buffers = (0..lengths.len()).flat_map(|buffer| {
+        let mut lengths = lengths.clone();
+        lower(lengths[buffer]).map(move |length| {
+            lengths[buffer] = length;
+            call.with_zeros(&lengths)
+        })
     });
-    let buffers = lower(call.lent()).map(|length| call.with_zeros(length));
+    let inputs = smaller_terms(&call.input).flat_map(|input| with_input(call, input));
     buffers.chain(inputs).find(&differs)
 }
 
@@ -183,7 +209,7 @@ fn with_lower(call: &Call, differs: impl Fn(&Call) -> bool) -> Option<Call> {
         _ => Vec::new(),
     };
     let kinds = kinds.into_iter().map(|kind| Call { kind, ..call.clone() });
-    let zeros = Some(call.with_zeros(call.lent())).filter(|zeros| zeros != call);
+    let zeros = Some(call.with_zeros(&call.lent())).filter(|zeros| zeros != call);
     bytes.chain(kinds).chain(zeros).find(differs)
 }
 

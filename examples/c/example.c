@@ -18,6 +18,13 @@ static const uint8_t e3[] = {0x01, 0x00, 0x0d, 0xff, 0x00, 0xff, 0x01, 0xfe, 0x0
 static const uint8_t e4[] = {0x01, 0x00, 0x0d, 0xff, 0x00, 0xff, 0x01, 0xfe, 0x02, 0xff, 0x00, 0xfe, 0x02, 0xff, 0x01, 0x01,
                              0x02, 0x00, 0x00, 0x03, 0x00, 0x00, 0x02, 0x00, 0x00, 0x03, 0x00, 0x00};
 
+/* [a:tau] [f:[x:a]tau] <f> [g:[x:tau]tau] tau, and a group with no steps: f is of another type than g. */
+static const uint8_t unlike[] = {0x01, 0x00, 0x0d, 0xff, 0x00, 0xff, 0xff, 0x01, 0x00, 0xfe, 0x01,
+                                 0xff, 0xff, 0x00, 0x00, 0x00, 0x02, 0x00, 0x00, 0x03, 0x00, 0x00};
+
+/* <tau> <tau> tau. */
+static const uint8_t two_wait[] = {0x01, 0x00, 0x05, 0xfe, 0x00, 0xfe, 0x00, 0x00};
+
 /* [a:tau] [x:a] x (E1 of the paper), and tau alone. */
 static const uint8_t e1[] = {0xff, 0x00, 0xff, 0x01, 0x01};
 static const uint8_t tau[] = {0x00};
@@ -33,12 +40,17 @@ static void numbers(const char *what, const uint64_t *answer, int count)
         printf(" %" PRIu64, answer[i]);
 }
 
-static void bytes(const uint8_t *s, size_t n)
+static void hex(const uint8_t *s, size_t n)
 {
     size_t i;
-    printf(",");
     for (i = 0; i < n; i++)
         printf(" %02x", s[i]);
+}
+
+static void bytes(const uint8_t *s, size_t n)
+{
+    printf(",");
+    hex(s, n);
     printf("\n");
 }
 
@@ -47,6 +59,32 @@ static void check(const char *what, const uint8_t *s, size_t n)
     uint64_t answer[4];
     bijterne_check(s, n, answer);
     numbers(what, answer, 4);
+    printf("\n");
+}
+
+/* The check's answer, and what stopped it. */
+static void explain(const char *what, const uint8_t *s, size_t n)
+{
+    uint8_t left[BIJTERNE_LONGEST_BODY], right[BIJTERNE_LONGEST_BODY];
+    uint64_t answer[8];
+    bijterne_explain(s, n, left, sizeof left, right, sizeof right, answer);
+    numbers(what, answer, 4);
+    switch (answer[0]) {
+    case BIJTERNE_BODIES_DIFFER:
+        printf(", left");
+        hex(left, (size_t)answer[4]);
+        printf(", right");
+        hex(right, (size_t)answer[5]);
+        printf(", difference at %" PRIu64, answer[6]);
+        break;
+    case BIJTERNE_STEP_NOT_POSSIBLE:
+        printf(", %s step %" PRIu64, answer[4] == BIJTERNE_LEFT ? "left" : "right", answer[5]);
+        printf(", condition %" PRIu64, answer[6]);
+        break;
+    case BIJTERNE_STILL_WAITING:
+        printf(", waiting %" PRIu64, answer[4]);
+        break;
+    }
     printf("\n");
 }
 
@@ -115,7 +153,7 @@ static void check_deep(const char *what, size_t depth)
 int main(void)
 {
     uint64_t answer[3];
-    uint8_t local[BUFFER], removed[BUFFER], set[BIJTERNE_LONGEST_SET];
+    uint8_t local[BUFFER], removed[BUFFER], past[sizeof e3], set[BIJTERNE_LONGEST_SET];
     size_t length;
 
     bijterne_examine_term(term, sizeof term, answer);
@@ -162,6 +200,14 @@ int main(void)
     check("check without a group", file, sizeof file - 6);
     check("check E3", e3, sizeof e3);
     check("check E3 without its step", e4, sizeof e4);
+
+    /* Two bodies that differ; a step at 1 of a body of one byte; two that wait; and nothing to explain. */
+    explain("explain a K of another type", unlike, sizeof unlike);
+    memcpy(past, e3, sizeof e3);
+    past[sizeof e3 - 1] = 1;
+    explain("explain E3 with its step at 1", past, sizeof past);
+    explain("explain two that wait", two_wait, sizeof two_wait);
+    explain("explain E3", e3, sizeof e3);
 
     /* Two files on a shelf; the same with a file that is refused after them; and cut short. */
     length = pack(set, 0, file, sizeof file);

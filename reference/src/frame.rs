@@ -75,6 +75,31 @@ pub const LOCAL: u8 = 1;
 pub const REMOVAL: u8 = 2;
 pub const SUBSTITUTION: u8 = 3;
 
+/// The condition of a step that is unmet, by its number. They are tried in
+/// this order.
+#[derive(Clone, Copy, PartialEq, Eq, Debug)]
+pub enum Unmet {
+    /// The kind is unknown.
+    Kind = 1,
+    /// The place is past the body.
+    Place,
+    /// The byte there is no variable, for kind 1, or not fe, for kinds 2 and 3.
+    Byte,
+    /// The variable's abstractor goes with no applicator, or the applicator
+    /// with no abstractor.
+    NoPartner,
+    /// The couple's variable has a use, for kind 2.
+    StillUsed,
+}
+
+pub const UNMET: [Unmet; 5] = [
+    Unmet::Kind,
+    Unmet::Place,
+    Unmet::Byte,
+    Unmet::NoPartner,
+    Unmet::StillUsed,
+];
+
 /// Which two items of a body's train a step takes together.
 #[derive(Clone, Copy, PartialEq, Eq, Debug)]
 pub enum Reach {
@@ -85,9 +110,8 @@ pub enum Reach {
     Couples,
 }
 
-/// The body after the step; none if the kind is unknown, the place is past
-/// the body or the step's condition is unmet.
-pub fn apply(frame: &Frame, body: &Term, step: Step) -> Option<Term> {
+/// The body after the step, or the first condition that is unmet.
+pub fn apply(frame: &Frame, body: &Term, step: Step) -> Result<Term, Unmet> {
     match made(Mistake::PairsOnly) {
         false => apply_within(Reach::Couples, frame, body, step),
         true => apply_within(Reach::Pairs, frame, body, step),
@@ -95,14 +119,24 @@ pub fn apply(frame: &Frame, body: &Term, step: Step) -> Option<Term> {
 }
 
 /// The same where steps take pairs only, as before document 02's couples.
-pub fn apply_to_pairs(frame: &Frame, body: &Term, step: Step) -> Option<Term> {
+pub fn apply_to_pairs(frame: &Frame, body: &Term, step: Step) -> Result<Term, Unmet> {
     apply_within(Reach::Pairs, frame, body, step)
 }
 
 /// The step on items that this reach takes together.
-fn apply_within<'a>(reach: Reach, frame: &'a Frame, body: &'a Term, step: Step) -> Option<Term> {
-    if step.place >= body.size() {
-        return None;
+fn apply_within<'a>(
+    reach: Reach,
+    frame: &'a Frame,
+    body: &'a Term,
+    step: Step,
+) -> Result<Term, Unmet> {
+    let past = step.place >= body.size();
+    let known = (LOCAL..=SUBSTITUTION).contains(&step.kind);
+    if !known && !(past && made(Mistake::PlaceBeforeKind)) {
+        return Err(Unmet::Kind);
+    }
+    if past {
+        return Err(Unmet::Place);
     }
     match step.kind {
         LOCAL => {
@@ -122,17 +156,16 @@ fn apply_within<'a>(reach: Reach, frame: &'a Frame, body: &'a Term, step: Step) 
             local.step(body, step.place, waiting)
         }
         REMOVAL => at_applicator(body, step.place, &|_, train| removed(reach, train)),
-        SUBSTITUTION => {
+        _ => {
             if made(Mistake::MeasuredOnTheWay) {
                 let kept = |k: &Term, train: &Term| couple_kept(reach, k, train);
                 let on_the_way = at_applicator(body, step.place, &kept)?;
                 if body_outgrown(frame, &on_the_way) {
-                    return Some(on_the_way);
+                    return Ok(on_the_way);
                 }
             }
             at_applicator(body, step.place, &|k, train| substituted(reach, k, train))
         }
-        _ => None,
     }
 }
 
@@ -159,40 +192,40 @@ impl<'a> Local<'a> {
         term: &'a Term,
         place: usize,
         mut waiting: Vec<Applicator<'a>>,
-    ) -> Option<Term> {
+    ) -> Result<Term, Unmet> {
         let inside = |waiting: Vec<Applicator<'a>>| match made(Mistake::PartnerOutsideTheTrain) {
             false => Vec::new(),
             true => waiting,
         };
         match term {
-            Tau => None,
+            Tau => Err(unmet_at_terminal()),
             Var(index) => {
                 let depth = self.partners.len();
-                let partner = self.partners[depth - *index as usize]?;
+                let partner = self.partners[depth - *index as usize].ok_or(Unmet::NoPartner)?;
                 // The abstractors that hold the variable and not the applicator.
                 let lift = match made(Mistake::LiftWithoutTheBetween) {
                     false => depth - partner.depth,
                     true => *index as usize,
                 };
-                Some(partner.k.lift(lift as u64))
+                Ok(partner.k.lift(lift as u64))
             }
-            App(_) | Abs(_) if place == 0 => None,
+            App(_) | Abs(_) if place == 0 => Err(Unmet::Byte),
             App(item) => {
                 let (k, rest) = item.parts();
                 let place = place - 1;
                 if place < k.size() {
-                    return Some(app(self.step(k, place, inside(waiting))?, rest.clone()));
+                    return Ok(app(self.step(k, place, inside(waiting))?, rest.clone()));
                 }
                 let depth = self.partners.len();
                 waiting.push(Applicator { k, depth });
                 let rest = self.step(rest, place - k.size(), waiting)?;
-                Some(app(k.clone(), rest))
+                Ok(app(k.clone(), rest))
             }
             Abs(item) => {
                 let (u, rest) = item.parts();
                 let place = place - 1;
                 if place < u.size() {
-                    return Some(abs(self.step(u, place, inside(waiting))?, rest.clone()));
+                    return Ok(abs(self.step(u, place, inside(waiting))?, rest.clone()));
                 }
                 let first = made(Mistake::FirstWaitingTaken) && !waiting.is_empty();
                 self.partners.push(match first {
@@ -204,9 +237,17 @@ impl<'a> Local<'a> {
                 }
                 let rest = self.step(rest, place - u.size(), waiting);
                 self.partners.pop();
-                Some(abs(u.clone(), rest?))
+                Ok(abs(u.clone(), rest?))
             }
         }
+    }
+}
+
+/// What is unmet at a terminal that is not the byte wanted.
+fn unmet_at_terminal() -> Unmet {
+    match made(Mistake::PartnerBeforeByte) {
+        false => Unmet::Byte,
+        true => Unmet::NoPartner,
     }
 }
 
@@ -215,10 +256,10 @@ impl<'a> Local<'a> {
 fn at_applicator(
     term: &Term,
     place: usize,
-    rewrite: &dyn Fn(&Term, &Term) -> Option<Term>,
-) -> Option<Term> {
+    rewrite: &dyn Fn(&Term, &Term) -> Result<Term, Unmet>,
+) -> Result<Term, Unmet> {
     let (make, item): (fn(Term, Term) -> Term, _) = match term {
-        Tau | Var(_) => return None,
+        Tau | Var(_) => return Err(unmet_at_terminal()),
         App(item) => (app, item),
         Abs(item) => (abs, item),
     };
@@ -226,16 +267,16 @@ fn at_applicator(
     if place == 0 {
         return match term {
             App(_) => rewrite(inner, rest),
-            _ => None,
+            _ => Err(Unmet::Byte),
         };
     }
     let place = place - 1;
     if place < inner.size() {
         let inner = at_applicator(inner, place, rewrite)?;
-        Some(make(inner, rest.clone()))
+        Ok(make(inner, rest.clone()))
     } else {
         let rest = at_applicator(rest, place - inner.size(), rewrite)?;
-        Some(make(inner.clone(), rest))
+        Ok(make(inner.clone(), rest))
     }
 }
 
@@ -249,25 +290,30 @@ struct Passed {
 
 /// What becomes of an abstractor and the rest of its train, by the abstractors
 /// passed, its U and the rest after it.
-type AtPartner<'a> = dyn Fn(u64, &Term, &Term) -> Option<Term> + 'a;
+type AtPartner<'a> = dyn Fn(u64, &Term, &Term) -> Result<Term, Unmet> + 'a;
 
 /// The train after an applicator, with the applicator's partner in it
-/// rewritten and what stands before that as it is; none if there is no partner.
-fn at_partner(reach: Reach, train: &Term, passed: Passed, rewrite: &AtPartner) -> Option<Term> {
+/// rewritten and what stands before that as it is.
+fn at_partner(
+    reach: Reach,
+    train: &Term,
+    passed: Passed,
+    rewrite: &AtPartner,
+) -> Result<Term, Unmet> {
     let kept = |inner: &Term| match made(Mistake::BetweenLowered) {
         true if !inner.uses(passed.abstractors + 1) => inner.without(passed.abstractors + 1),
         _ => inner.clone(),
     };
     match train {
-        Tau | Var(_) => None,
-        App(_) if reach == Reach::Pairs => None,
+        Tau | Var(_) => Err(Unmet::NoPartner),
+        App(_) if reach == Reach::Pairs => Err(Unmet::NoPartner),
         App(item) => {
             let (k, rest) = item.parts();
             let passed = Passed {
                 waiting: passed.waiting + u64::from(!made(Mistake::NearestAbstractorTaken)),
                 ..passed
             };
-            Some(app(kept(k), at_partner(reach, rest, passed, rewrite)?))
+            Ok(app(kept(k), at_partner(reach, rest, passed, rewrite)?))
         }
         Abs(item) if passed.waiting == 0 => {
             let (u, rest) = item.parts();
@@ -279,46 +325,46 @@ fn at_partner(reach: Reach, train: &Term, passed: Passed, rewrite: &AtPartner) -
                 abstractors: passed.abstractors + 1,
                 waiting: passed.waiting - 1,
             };
-            Some(abs(kept(u), at_partner(reach, rest, passed, rewrite)?))
+            Ok(abs(kept(u), at_partner(reach, rest, passed, rewrite)?))
         }
     }
 }
 
 /// The removal of a couple: what is left of the train after its applicator, if
 /// its variable has no use.
-fn removed(reach: Reach, train: &Term) -> Option<Term> {
+fn removed(reach: Reach, train: &Term) -> Result<Term, Unmet> {
     at_partner(reach, train, Passed::default(), &|_, _, rest| {
         if rest.uses(1) {
-            None
+            Err(Unmet::StillUsed)
         } else if made(Mistake::RemovalKeepsIndices) {
-            Some(rest.clone())
+            Ok(rest.clone())
         } else {
-            Some(rest.without(1))
+            Ok(rest.without(1))
         }
     })
 }
 
 /// The whole substitution of a couple: what is left of the train after its
 /// applicator.
-fn substituted(reach: Reach, k: &Term, train: &Term) -> Option<Term> {
+fn substituted(reach: Reach, k: &Term, train: &Term) -> Result<Term, Unmet> {
     if made(Mistake::PairKept) {
         return couple_kept(reach, k, train);
     }
     at_partner(reach, train, Passed::default(), &|passed, _, rest| {
         if made(Mistake::SubstitutionNeedsAUse) && !rest.uses(1) {
-            return None;
+            return Err(Unmet::NoPartner);
         }
-        Some(rest.substituted(1, &lifted_past(k, passed)))
+        Ok(rest.substituted(1, &lifted_past(k, passed)))
     })
 }
 
 /// A couple with every use of its variable replaced, before it is dropped.
-fn couple_kept(reach: Reach, k: &Term, train: &Term) -> Option<Term> {
+fn couple_kept(reach: Reach, k: &Term, train: &Term) -> Result<Term, Unmet> {
     let after = at_partner(reach, train, Passed::default(), &|passed, u, rest| {
         let replaced = rest.substituted(1, &lifted_past(k, passed)).lift(1);
-        Some(abs(u.clone(), replaced))
+        Ok(abs(u.clone(), replaced))
     })?;
-    Some(app(k.clone(), after))
+    Ok(app(k.clone(), after))
 }
 
 /// K as it stands right before its partner.

@@ -3,11 +3,12 @@
 
 use crate::file::Group;
 use crate::frame::{
-    type_of, type_of_variable, Entry, Frame, Reach, Step, LOCAL, REMOVAL, SUBSTITUTION,
+    type_of, type_of_variable, Entry, Frame, Reach, Step, LOCAL, REMOVAL, SUBSTITUTION, UNMET,
 };
+use crate::ground::Side;
 use crate::normaliser::{
-    equivalent, groups_for, groups_with_stray_steps, in_parts, possible_steps, reduce,
-    substitutions, Manner, Order, Reduction,
+    equivalent, groups_for, groups_with_stray_steps, groups_with_unmet_step, in_parts,
+    possible_steps, reduce, substitutions, Manner, Order, Reduction,
 };
 use crate::rng::Rng;
 use crate::set::MAX_SET_BYTES;
@@ -449,6 +450,11 @@ impl Maker<'_> {
             spine = app(k, spine);
         }
         spine
+    }
+
+    /// So many applicators before the term, whether they fit or not.
+    fn applied(&mut self, frame: &Frame, many: usize, term: Term) -> Term {
+        (0..many).fold(term, |rest, _| app(self.term(frame, 0), rest))
     }
 
     fn definition(&mut self, frame: &Frame, fuel: usize) -> Option<(Term, Term)> {
@@ -1530,6 +1536,64 @@ pub fn random_file(rng: &mut Rng) -> Vec<u8> {
             bytes
         }
     }
+}
+
+/// A small file that mostly stops with 8, 10 or 12.
+pub fn stopped_file(rng: &mut Rng) -> Vec<u8> {
+    let (term, groups) = match rng.below(8) {
+        // Something waits.
+        0 => {
+            let term = waiting_text(rng);
+            let groups = groups_for(&term, rng);
+            (term, groups)
+        }
+        // A side's last steps are missing.
+        1..=2 => {
+            let term = coupled_text(rng);
+            let mut groups = groups_for(&term, rng);
+            let lists = groups
+                .iter_mut()
+                .flat_map(|group| [&mut group.left, &mut group.right]);
+            let mut lists: Vec<_> = lists.filter(|steps| !steps.is_empty()).collect();
+            if !lists.is_empty() {
+                let at = rng.below(lists.len());
+                let left = rng.below(lists[at].len());
+                lists[at].truncate(left);
+            }
+            (term, groups)
+        }
+        // A step cannot be applied.
+        _ => {
+            let term = coupled_text(rng);
+            let side = *rng.pick(&[Side::Left, Side::Right]);
+            let unmet = *rng.pick(&UNMET);
+            let groups = groups_with_unmet_step(&term, side, unmet, rng);
+            (term, groups)
+        }
+    };
+    file(&term.bytes(), &groups)
+}
+
+/// A short text that ends in applicators that wait, before τ or a variable; or
+/// that has these in a K, before which others wait.
+fn waiting_text(rng: &mut Rng) -> Term {
+    let lines = rng.between(1, 4);
+    let mut maker = Maker { rng };
+    let frame = maker.frame(lines);
+    let many = match maker.rng.below(8) {
+        0 => maker.rng.between(20, 300),
+        _ => maker.rng.between(1, 6),
+    };
+    let end = maker.term(&frame, 0);
+    let waiting = maker.applied(&frame, many, end);
+    let term = match maker.rng.below(2) {
+        0 => waiting,
+        _ => {
+            let before = maker.rng.below(4);
+            maker.applied(&frame, before, app(waiting, Tau))
+        }
+    };
+    before(frame, term)
 }
 
 // ------------------------------------------------------------------ sets

@@ -1,14 +1,17 @@
 //! A reference implementation of the checker of document 01 ("Delta-Lambda
 //! checking with supplied reductions") with document 02's kind 3, printing,
-//! counting, couples and sets, written for clarity: terms are trees that keep
-//! their size, the lists are lifted literally and every state is measured anew.
+//! counting, couples, sets and explaining, written for clarity: terms are trees
+//! that keep their size, the lists are lifted literally and every state is
+//! measured anew.
 //! The cases of `walk` and `plain` follow the rules of 001, 5.8 and 5.3, each
 //! under its number.
 
 pub mod counts;
+pub mod explain;
 pub mod file;
 pub mod frame;
 pub mod gen;
+pub mod ground;
 pub mod mistakes;
 pub mod normaliser;
 pub mod page;
@@ -24,8 +27,10 @@ pub mod term;
 pub mod walk;
 
 use counts::{counts, MAX_COUNTED};
+pub use explain::{explain, ExplainAnswer, Report};
 use file::{read_fields, Fields};
 use frame::{apply, body_outgrown, type_of, Frame, Step};
+use ground::{Ground, Stop};
 use mistakes::{made, Mistake};
 use page::{page, page_length};
 use refusal::*;
@@ -171,8 +176,8 @@ pub fn apply_step_by(
         };
         answer(
             read_term(bytes).and_then(|term| match apply(&Frame::new(), &term, step) {
-                None => refuse(BAD_STEP, 0),
-                Some(result) => write_result(&result, buffer),
+                Err(_) => refuse(BAD_STEP, 0),
+                Ok(result) => write_result(&result, buffer),
             }),
         )
     })
@@ -230,15 +235,25 @@ pub fn check_by(apply: Apply, bytes: &[u8]) -> CheckAnswer {
 /// The same on the caller's own stack, which should be a large one, with the
 /// walk watched if there is a watcher.
 pub fn check_watched(apply: Apply, bytes: &[u8], watch: Option<&mut Watch>) -> CheckAnswer {
+    check_with_ground(apply, bytes, watch).0
+}
+
+/// The same with the ground of a refusal.
+fn check_with_ground(
+    apply: Apply,
+    bytes: &[u8],
+    watch: Option<&mut Watch>,
+) -> (CheckAnswer, Ground) {
     let (fields, term) = match read_file(bytes) {
         Ok(read) => read,
         Err(Refusal { number, place }) => {
-            return CheckAnswer {
+            let refused = CheckAnswer {
                 number,
                 place,
                 comparisons: 0,
                 degree: 0,
             };
+            return (refused, Ground::Untold);
         }
     };
     let degree = term.degree();
@@ -249,20 +264,21 @@ pub fn check_watched(apply: Apply, bytes: &[u8], watch: Option<&mut Watch>) -> C
         (Ok(()), Some(group)) => refuse(GROUPS_LEFT, group.head),
         (end, _) => end,
     };
-    match end {
-        Ok(()) => CheckAnswer {
-            number: 0,
-            place: 0,
-            comparisons,
-            degree,
-        },
-        Err(Refusal { number, place }) => CheckAnswer {
-            number,
-            place,
-            comparisons,
-            degree,
-        },
-    }
+    let accepted = Refusal {
+        number: 0,
+        place: 0,
+    };
+    let (Refusal { number, place }, ground) = match end {
+        Ok(()) => (accepted, Ground::Untold),
+        Err(Stop { refusal, ground }) => (refusal, ground),
+    };
+    let answer = CheckAnswer {
+        number,
+        place,
+        comparisons,
+        degree,
+    };
+    (answer, ground)
 }
 
 /// Checks a set: its heads, then its files up to the first that is refused.

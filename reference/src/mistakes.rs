@@ -118,11 +118,42 @@ pub enum Mistake {
     FirstHeadNotMeasured,
     /// A set's heads are tested before its length.
     SetLengthAfterHeads,
+    /// A place past the body is found before an unknown kind.
+    PlaceBeforeKind,
+    /// A step at a terminal that is not the byte wanted is refused for having no
+    /// partner.
+    PartnerBeforeByte,
+    /// The side of a step is the other one.
+    SidesExchanged,
+    /// A side's steps are numbered from 1.
+    StepsFromOne,
+    /// Of those that wait the last is not counted.
+    OneLessWaits,
+    /// Those that wait in the text around a K or U are counted too.
+    OuterWaitingCounted,
+    /// The bodies of 12 are those before the steps.
+    BodiesBeforeSteps,
+    /// The left body of 12 is given as the right one.
+    BodiesExchanged,
+    /// The lengths of the bodies of 12 are given right before left.
+    LengthsExchanged,
+    /// The place of the difference is that of the byte after it.
+    DifferenceOneTooFar,
+    /// The place of the difference is that of the last differing byte.
+    LastDifference,
+    /// A buffer as long as its body is too short.
+    ExactBodiesRefused,
+    /// The left body is written though only the right buffer is too short.
+    LeftWrittenWith14,
+    /// 14 comes with the place of the 12.
+    PlaceWith14,
+    /// 14 comes with the lengths of the bodies and the difference.
+    LengthsWith14,
 }
 
 use Mistake::*;
 
-pub const MISTAKES: [Mistake; 54] = [
+pub const MISTAKES: [Mistake; 69] = [
     WaitingNotLifted,
     TakesFromWFirst,
     OutgrownAfterTheRule,
@@ -177,6 +208,21 @@ pub const MISTAKES: [Mistake; 54] = [
     SetLimit,
     FirstHeadNotMeasured,
     SetLengthAfterHeads,
+    PlaceBeforeKind,
+    PartnerBeforeByte,
+    SidesExchanged,
+    StepsFromOne,
+    OneLessWaits,
+    OuterWaitingCounted,
+    BodiesBeforeSteps,
+    BodiesExchanged,
+    LengthsExchanged,
+    DifferenceOneTooFar,
+    LastDifference,
+    ExactBodiesRefused,
+    LeftWrittenWith14,
+    PlaceWith14,
+    LengthsWith14,
 ];
 
 #[cfg(not(feature = "mistakes"))]

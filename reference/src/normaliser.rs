@@ -1,7 +1,10 @@
 //! Finds steps. Only the generator uses it; the checker never searches.
 
 use crate::file::Group;
-use crate::frame::{apply, body_outgrown, Entry, Frame, Reach, Step, LOCAL, REMOVAL, SUBSTITUTION};
+use crate::frame::{
+    apply, body_outgrown, Entry, Frame, Reach, Step, Unmet, LOCAL, REMOVAL, SUBSTITUTION,
+};
+use crate::ground::Side;
 use crate::rng::Rng;
 use crate::term::{Term, Term::*};
 use crate::walk::walk;
@@ -280,13 +283,13 @@ pub fn equivalent(frame: &Frame, body: &Term, wanted: &Reduction, rng: &mut Rng)
 /// couples of a body are substituted whole, and in one of four the author
 /// keeps to pairs.
 pub fn groups_for(term: &Term, rng: &mut Rng) -> Vec<Group> {
-    groups_by(term, rng, |_, _, group, _| group)
+    groups_by(term, rng, &|_, _, _, group, _| group)
 }
 
 /// The same, where one comparison in four begins with a local step at any
 /// variable of one of its bodies.
 pub fn groups_with_stray_steps(term: &Term, rng: &mut Rng) -> Vec<Group> {
-    groups_by(term, rng, |type_of_k, u, mut group, rng| {
+    groups_by(term, rng, &|_, type_of_k, u, mut group, rng| {
         let (body, steps) = match rng.below(8) {
             0 => (type_of_k, &mut group.left),
             1 => (u, &mut group.right),
@@ -301,6 +304,51 @@ pub fn groups_with_stray_steps(term: &Term, rng: &mut Rng) -> Vec<Group> {
     })
 }
 
+/// The same, where a comparison may have a step on this side, after some of the
+/// side's own, for which this condition is unmet.
+pub fn groups_with_unmet_step(term: &Term, side: Side, wanted: Unmet, rng: &mut Rng) -> Vec<Group> {
+    groups_by(term, rng, &|frame, type_of_k, u, mut group, rng| {
+        let (body, steps) = match side {
+            Side::Left => (type_of_k, &mut group.left),
+            Side::Right => (u, &mut group.right),
+        };
+        // More often after steps: most comparisons have none.
+        let one_in = if steps.is_empty() { 6 } else { 2 };
+        if rng.below(one_in) > 0 {
+            return group;
+        }
+        let number = rng.below(steps.len() + 1);
+        let mut body = body.clone();
+        for step in &steps[..number] {
+            body = apply(frame, &body, *step).expect("a step that was found can be applied");
+        }
+        let found = (0..50).find_map(|_| {
+            let step = likely_unmet(&body, wanted, rng);
+            (apply(frame, &body, step) == Err(wanted)).then_some(step)
+        });
+        if let Some(step) = found {
+            steps.insert(number, step);
+        }
+        group
+    })
+}
+
+/// A step for which this condition, or an earlier one, may be unmet.
+fn likely_unmet(body: &Term, wanted: Unmet, rng: &mut Rng) -> Step {
+    let size = body.size();
+    let kind = *match wanted {
+        Unmet::Kind => rng.pick(&[0, 4, 255]),
+        Unmet::StillUsed => &REMOVAL,
+        _ => rng.pick(&[LOCAL, REMOVAL, SUBSTITUTION]),
+    };
+    let place = match wanted {
+        Unmet::Place => *rng.pick(&[size, size + 1, 65_535]),
+        Unmet::Kind => rng.below(size + 2),
+        _ => rng.below(size),
+    };
+    Step { kind, place }
+}
+
 fn places_of_variables(term: &Term) -> Vec<usize> {
     let mut at = 0;
     let mut places = Vec::new();
@@ -313,10 +361,11 @@ fn places_of_variables(term: &Term) -> Vec<usize> {
     places
 }
 
-/// What becomes of the group for a comparison: told the type of K and U.
-type Change = fn(&Term, &Term, Group, &mut Rng) -> Group;
+/// What becomes of the group for a comparison: told the frame, the type of K
+/// and U.
+type Change<'a> = dyn Fn(&Frame, &Term, &Term, Group, &mut Rng) -> Group + 'a;
 
-fn groups_by(term: &Term, rng: &mut Rng, change: Change) -> Vec<Group> {
+fn groups_by(term: &Term, rng: &mut Rng, change: &Change) -> Vec<Group> {
     let mut groups = Vec::new();
     let manner = *rng.pick(&[Manner::InParts, Manner::Whole]);
     let reach = match rng.below(4) {
@@ -331,7 +380,7 @@ fn groups_by(term: &Term, rng: &mut Rng, change: Change) -> Vec<Group> {
             left,
             right,
         };
-        groups.push(change(type_of_k, u, group, rng));
+        groups.push(change(frame, type_of_k, u, group, rng));
         groups.last().cloned()
     });
     groups

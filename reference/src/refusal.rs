@@ -24,6 +24,6 @@ pub struct Refusal {
     pub place: usize,
 }
 
-pub fn refuse<T>(number: u8, place: usize) -> Result<T, Refusal> {
-    Err(Refusal { number, place })
+pub fn refuse<T, E: From<Refusal>>(number: u8, place: usize) -> Result<T, E> {
+    Err(Refusal { number, place }.into())
 }

@@ -91,7 +91,7 @@ fn one_pass_line(event: walk::Event) -> Line {
             let bodies = match reached {
                 Ok((left, right)) if left == right => two(left, "=", right),
                 Ok((left, right)) => two(left, "≠", right),
-                Err(refusal) => reason(refusal.number).to_string(),
+                Err(stop) => reason(stop.refusal.number).to_string(),
             };
             comparison_line(place, bodies)
         }

@@ -1,7 +1,8 @@
 //! The one-pass walk.
 
 use crate::file::Group;
-use crate::frame::{apply, body_outgrown, type_of, type_of_variable, Entry, Frame, Step};
+use crate::frame::{apply, body_outgrown, type_of, type_of_variable, Entry, Frame, Step, Unmet};
+use crate::ground::{stop, Ground, Side, Stop};
 use crate::mistakes::{made, Mistake};
 use crate::refusal::*;
 use crate::state::{Rule, State, Text::*, Waiting};
@@ -15,7 +16,7 @@ pub type Supply<'a> = dyn FnMut(&Frame, &Term, &Term) -> Option<Group> + 'a;
 
 /// What a step does to a body after the frame: `apply`, or what a test puts
 /// in its place.
-pub type Apply = fn(&Frame, &Term, Step) -> Option<Term>;
+pub type Apply = fn(&Frame, &Term, Step) -> Result<Term, Unmet>;
 
 /// What a watcher of the walk is shown.
 pub enum Event<'a> {
@@ -31,7 +32,7 @@ pub enum Event<'a> {
         /// Of the applicator.
         place: usize,
         r: &'a Frame,
-        reached: &'a Result<(Term, Term), Refusal>,
+        reached: &'a Result<(Term, Term), Stop>,
     },
 }
 
@@ -39,7 +40,7 @@ pub type Watch<'a> = dyn FnMut(Event) + 'a;
 
 /// Walks over a closed term from empty R and W. Gives the number of
 /// comparisons completed and how the walk ended.
-pub fn walk(term: &Term, supply: &mut Supply) -> (usize, Result<(), Refusal>) {
+pub fn walk(term: &Term, supply: &mut Supply) -> (usize, Result<(), Stop>) {
     walk_by(apply, term, supply, None)
 }
 
@@ -49,7 +50,7 @@ pub fn walk_by(
     term: &Term,
     supply: &mut Supply,
     watch: Option<&mut Watch>,
-) -> (usize, Result<(), Refusal>) {
+) -> (usize, Result<(), Stop>) {
     let mut walk = Walk {
         apply,
         supply,
@@ -71,7 +72,7 @@ impl Walk<'_, '_, '_> {
     /// Whether (R, W, B) holds, W being empty and B a part of the term's own
     /// text with its first byte at `place`. Leaves the entries of R that it
     /// found. The rules are those of 001, 5.3 and 5.8, in the paper's order.
-    fn holds(&mut self, r: &mut Frame, place: usize, b: &Term) -> Result<(), Refusal> {
+    fn holds(&mut self, r: &mut Frame, place: usize, b: &Term) -> Result<(), Stop> {
         let found = r.len();
         let mut state = State::new(Own, place, r, b.clone());
         loop {
@@ -97,21 +98,21 @@ impl Walk<'_, '_, '_> {
                 (Own, App(item), _, _) => {
                     self.show(Some(Rule::Iii), &state);
                     let (k, rest) = item.parts_cloned();
-                    self.holds(state.r, state.place_inside(), &k)?;
+                    self.inside(&mut state, &k)?;
                     state.join_w(k, rest);
                 }
                 // (iv) [U]B, nothing waits: U, then B after [U].
                 (Own, Abs(item), [], _) => {
                     self.show(Some(Rule::Iv), &state);
                     let (u, rest) = item.parts_cloned();
-                    self.holds(state.r, state.place_inside(), &u)?;
+                    self.inside(&mut state, &u)?;
                     state.join_r(Entry::Single(u), rest);
                 }
                 // (v) [U]B, ⟨K⟩ waits: U, same(R,K,U), then B after ⟨K⟩[U].
                 (Own, Abs(item), [.., _], _) => {
                     self.show(Some(Rule::V), &state);
                     let (u, rest) = item.parts_cloned();
-                    self.holds(state.r, state.place_inside(), &u)?;
+                    self.inside(&mut state, &u)?;
                     self.compare_and_pair(&mut state, u, rest)?;
                 }
                 // (vi) Copied τ, nothing waits.
@@ -166,6 +167,21 @@ impl Walk<'_, '_, '_> {
         Ok(())
     }
 
+    /// Whether the K or U that B begins with holds after R.
+    fn inside(&mut self, state: &mut State, inner: &Term) -> Result<(), Stop> {
+        let mut end = self.holds(state.r, state.place_inside(), inner);
+        if made(Mistake::OuterWaitingCounted) {
+            if let Err(Stop {
+                ground: Ground::Waiting(many),
+                ..
+            }) = &mut end
+            {
+                *many += state.w.len();
+            }
+        }
+        end
+    }
+
     /// Shows the state to the watcher.
     fn show(&mut self, rule: Option<Rule>, state: &State) {
         if let Some(watch) = &mut self.watch {
@@ -175,7 +191,7 @@ impl Walk<'_, '_, '_> {
 
     /// Passes the [U] that B begins with by `same(R,K,U)`, ⟨K⟩ being the last
     /// of W: the two join R.
-    fn compare_and_pair(&mut self, state: &mut State, u: Term, rest: Term) -> Result<(), Refusal> {
+    fn compare_and_pair(&mut self, state: &mut State, u: Term, rest: Term) -> Result<(), Stop> {
         let last = state.w.pop().expect("W ends in ⟨K⟩");
         self.compare(state.r, &state.w, &last, &u)?;
         state.join_r(Entry::Pair(last.k, u), rest);
@@ -189,7 +205,7 @@ impl Walk<'_, '_, '_> {
         w: &[Waiting],
         applicator: &Waiting,
         u: &Term,
-    ) -> Result<(), Refusal> {
+    ) -> Result<(), Stop> {
         let place = applicator.place;
         let reached = self.reach(r, w, applicator, u);
         if let Some(watch) = &mut self.watch {
@@ -198,7 +214,11 @@ impl Walk<'_, '_, '_> {
         }
         let (left, right) = reached?;
         if left != right {
-            return refuse(BODIES_DIFFER, place);
+            let bodies = match made(Mistake::BodiesBeforeSteps) {
+                false => Ground::Bodies(left, right),
+                true => Ground::Bodies(type_of(r, &applicator.k).expect("K has a type"), u.clone()),
+            };
+            return stop(BODIES_DIFFER, place, bodies);
         }
         self.comparisons += 1;
         Ok(())
@@ -212,7 +232,7 @@ impl Walk<'_, '_, '_> {
         w: &[Waiting],
         applicator: &Waiting,
         u: &Term,
-    ) -> Result<(Term, Term), Refusal> {
+    ) -> Result<(Term, Term), Stop> {
         let place = applicator.place;
         let Some(type_of_k) = type_of(r, &applicator.k) else {
             return refuse(NO_TYPE, place);
@@ -223,29 +243,37 @@ impl Walk<'_, '_, '_> {
         if body_outgrown(r, &type_of_k) || body_outgrown(r, u) {
             return refuse(OUTGROWN, place);
         }
-        let left = self.replay(r, w, type_of_k, &group.left, place)?;
-        let right = self.replay(r, w, u.clone(), &group.right, place)?;
+        let left = self.replay(r, w, type_of_k, Side::Left, &group.left, place)?;
+        let right = self.replay(r, w, u.clone(), Side::Right, &group.right, place)?;
         Ok((left, right))
     }
 
-    /// The body after all the steps.
+    /// The body after all the steps of its side.
     fn replay(
         &self,
         r: &Frame,
         w: &[Waiting],
         mut body: Term,
+        side: Side,
         steps: &[Step],
         place: usize,
-    ) -> Result<Term, Refusal> {
-        for &step in steps {
+    ) -> Result<Term, Stop> {
+        for (number, &step) in steps.iter().enumerate() {
             let applied = match made(Mistake::PartnerInW) {
                 false => (self.apply)(r, &body, step),
                 true => after_waiting(self.apply, r, w, &body, step),
             };
-            match applied {
-                None => return refuse(BAD_STEP, place),
-                Some(next) => body = next,
-            }
+            body = match applied {
+                Ok(next) => next,
+                Err(unmet) => {
+                    let ground = Ground::Step {
+                        side,
+                        number,
+                        unmet,
+                    };
+                    return stop(BAD_STEP, place, ground);
+                }
+            };
             if body_outgrown(r, &body) {
                 return refuse(OUTGROWN, place);
             }
@@ -255,9 +283,15 @@ impl Walk<'_, '_, '_> {
 }
 
 /// The step on the body with W before it as items of its train.
-fn after_waiting(apply: Apply, r: &Frame, w: &[Waiting], body: &Term, step: Step) -> Option<Term> {
+fn after_waiting(
+    apply: Apply,
+    r: &Frame,
+    w: &[Waiting],
+    body: &Term,
+    step: Step,
+) -> Result<Term, Unmet> {
     if step.place >= body.size() {
-        return None;
+        return apply(r, body, step);
     }
     let train = w
         .iter()
@@ -271,16 +305,17 @@ fn after_waiting(apply: Apply, r: &Frame, w: &[Waiting], body: &Term, step: Step
         };
         stepped = item.parts().1.clone();
     }
-    Some(stepped)
+    Ok(stepped)
 }
 
 /// The refusal of τ with these waiting.
-fn still_waiting(w: &[Waiting]) -> Result<(), Refusal> {
+fn still_waiting(w: &[Waiting]) -> Result<(), Stop> {
     let last = match made(Mistake::PlaceOfTheFirst) {
         false => w.last(),
         true => w.first(),
     };
-    refuse(STILL_WAITING, last.expect("something waits").place)
+    let place = last.expect("something waits").place;
+    stop(STILL_WAITING, place, Ground::Waiting(w.len()))
 }
 
 /// Measures R, W, Y and B. The terms of an entry of R are in the scope of the

@@ -2,7 +2,7 @@
 
 mod common;
 use common::*;
-use reference::frame::{apply, apply_to_pairs, Frame, Step, LOCAL, REMOVAL, SUBSTITUTION};
+use reference::frame::{apply, apply_to_pairs, Frame, Step, Unmet, LOCAL, REMOVAL, SUBSTITUTION};
 use reference::gen::*;
 use reference::refusal::*;
 use reference::rng::Rng;
@@ -99,7 +99,8 @@ fn steps_over_couples_are_steps_over_pairs() {
                         term.bytes()
                     );
                     if between > 0 {
-                        assert_eq!(apply_to_pairs(&empty, &term, Step { kind, place }), None);
+                        let of_pairs = apply_to_pairs(&empty, &term, Step { kind, place });
+                        assert_eq!(of_pairs, Err(Unmet::NoPartner));
                     }
                 }
                 seen[between] += 1;
@@ -107,7 +108,7 @@ fn steps_over_couples_are_steps_over_pairs() {
                 for place in term.size() - rest.size()..term.size() {
                     let step = Step { kind: LOCAL, place };
                     // Other variables may go with other couples, or with none.
-                    if let Some(of_pair) = apply_to_pairs(&empty, &moved, step) {
+                    if let Ok(of_pair) = apply_to_pairs(&empty, &moved, step) {
                         let own = apply(&empty, &term, step).expect("it goes with a couple");
                         assert_eq!(brought_together(&own, first, second), of_pair);
                         local[between] += 1;
@@ -121,7 +122,7 @@ fn steps_over_couples_are_steps_over_pairs() {
                             kind,
                             place: place_of(at),
                         };
-                        assert_eq!(apply(&empty, &term, step), None);
+                        assert_eq!(apply(&empty, &term, step), Err(Unmet::NoPartner));
                     }
                     unmatched += 1;
                 }

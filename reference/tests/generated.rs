@@ -5,7 +5,7 @@ use common::*;
 use reference::file::read_fields;
 use reference::gen::*;
 use reference::rng::Rng;
-use reference::frame::{apply, body_outgrown, Frame, Step, REMOVAL, SUBSTITUTION};
+use reference::frame::{apply, body_outgrown, Frame, Step, Unmet, REMOVAL, SUBSTITUTION};
 use reference::normaliser::{groups_for, in_parts, substitutions};
 use reference::refusal::*;
 use reference::stack::on_large_stack;
@@ -106,23 +106,25 @@ fn steps_of_texts() {
 fn substituted_in_parts(frame: &Frame, body: &Term, place: usize) -> Option<Vec<Term>> {
     let mut forms = vec![body.clone()];
     for step in in_parts(body, place)? {
-        forms.push(apply(frame, &forms[forms.len() - 1], step)?);
+        forms.push(apply(frame, &forms[forms.len() - 1], step).ok()?);
     }
     Some(forms)
 }
 
 /// The same step by step where the step is of kind 3.
-fn apply_in_parts(frame: &Frame, body: &Term, step: Step) -> Option<Term> {
+fn apply_in_parts(frame: &Frame, body: &Term, step: Step) -> Result<Term, Unmet> {
     match step.kind {
-        SUBSTITUTION => substituted_in_parts(frame, body, step.place)?.pop(),
+        SUBSTITUTION => substituted_in_parts(frame, body, step.place)
+            .and_then(|mut forms| forms.pop())
+            .ok_or(Unmet::NoPartner),
         _ => apply(frame, body, step),
     }
 }
 
 /// A checker that knows kinds 1 and 2 only.
-fn apply_kinds_1_and_2(frame: &Frame, body: &Term, step: Step) -> Option<Term> {
+fn apply_kinds_1_and_2(frame: &Frame, body: &Term, step: Step) -> Result<Term, Unmet> {
     match step.kind {
-        SUBSTITUTION => None,
+        SUBSTITUTION => Err(Unmet::Kind),
         _ => apply(frame, body, step),
     }
 }
@@ -143,8 +145,8 @@ fn substitution_is_its_parts() {
             };
             let couples = substitutions(&term);
             for place in (0..=term.size()).filter(|_| term.size() < 100 || rng.below(200) == 0) {
-                let own = apply(&empty, &term, Step { kind: SUBSTITUTION, place });
-                let removed = apply(&empty, &term, Step { kind: REMOVAL, place });
+                let own = apply(&empty, &term, Step { kind: SUBSTITUTION, place }).ok();
+                let removed = apply(&empty, &term, Step { kind: REMOVAL, place }).ok();
                 if !couples.iter().any(|step| step.place == place) {
                     assert_eq!((own, removed, in_parts(&term, place)), (None, None, None));
                     refused += 1;

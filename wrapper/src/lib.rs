@@ -1,10 +1,11 @@
 //! The calls of the proved checker, for Rust. No call relies on an earlier one, and every call returns.
 //!
 //! `number` is 0 if accepted, else the number of the refusal (module `number`; docs/REFUSALS.md), and `place` says where. At a
-//! refusal a lent buffer keeps every byte; after a result it keeps every byte past it.
+//! refusal a lent buffer keeps every byte; after a result it keeps every byte past it. To `explain` the two bodies of a 12 are the
+//! result, and it has no other.
 
 use std::sync::mpsc::{sync_channel, Receiver, SyncSender};
-use std::{slice, thread};
+use std::thread;
 
 mod raw {
     extern "C" {
@@ -16,6 +17,7 @@ mod raw {
         pub fn bijterne_count_strings(length: usize, answer: *mut [u64; 4]);
         pub fn bijterne_check(s: *const u8, n: usize, answer: *mut [u64; 4]);
         pub fn bijterne_check_set(s: *const u8, n: usize, answer: *mut [u64; 5]);
+        pub fn bijterne_explain(s: *const u8, n: usize, left: *mut u8, l: usize, right: *mut u8, r: usize, answer: *mut [u64; 8]);
     }
 }
 
@@ -100,6 +102,52 @@ pub struct SetAnswer {
     pub degree: usize,
 }
 
+/// Of `explain`.
+#[derive(Clone, Copy, Debug, PartialEq, Eq)]
+pub struct Explanation {
+    /// As `check` gives it; but `BUFFER_TOO_SHORT` at place 0 for `BODIES_DIFFER`, if either buffer is too short.
+    pub answer: CheckAnswer,
+    pub ground: Ground,
+}
+
+/// What stopped a check.
+#[derive(Clone, Copy, Debug, PartialEq, Eq)]
+pub enum Ground {
+    /// At `BODIES_DIFFER`: the lengths of the two bodies, and the place of the first byte at which they differ. Neither body is a
+    /// proper beginning of the other.
+    Bodies { left: usize, right: usize, difference: usize },
+    /// At `STEP_NOT_POSSIBLE`: the step's number in its side's list, from 0, and the condition that failed.
+    Step { side: Side, step: usize, condition: Condition },
+    /// At `STILL_WAITING`: how many applicators wait.
+    Waiting { how_many: usize },
+    /// At any other number: the answer says all.
+    AnswerAlone,
+}
+
+/// Whose steps.
+#[derive(Clone, Copy, Debug, PartialEq, Eq)]
+pub enum Side {
+    /// Those on the type of the applicator's K.
+    Left = 0,
+    /// Those on the abstractor's U.
+    Right = 1,
+}
+
+/// Why a step is not possible: the first that fails, in this order.
+#[derive(Clone, Copy, Debug, PartialEq, Eq)]
+pub enum Condition {
+    /// The kind is not 1, 2 or 3.
+    Kind = 1,
+    /// The place is past the body.
+    Place = 2,
+    /// Not a variable there (kind 1), or not fe (kinds 2 and 3).
+    Byte = 3,
+    /// The variable's abstractor has no applicator, or the applicator no abstractor.
+    NoPartner = 4,
+    /// The couple's variable has a use (kind 2).
+    StillUsed = 5,
+}
+
 /// The stack that a check needs, whatever the file or set.
 pub const CHECK_STACK_BYTES: usize = 4 << 20;
 
@@ -108,6 +156,9 @@ pub const LONGEST_PAGE: usize = 16644;
 
 /// The longest set, heads included. A field's head is 3 bytes.
 pub const LONGEST_SET: usize = 65535;
+
+/// No body is longer: two buffers of this length are always enough for `explain`.
+pub const LONGEST_BODY: usize = 4096;
 
 /// The longest strings that `count_strings` counts.
 pub const LONGEST_COUNTED: usize = 7;
@@ -195,6 +246,20 @@ pub fn check_set(set: &[u8]) -> SetAnswer {
     })
 }
 
+/// Checks a file, and says what stopped it. Where the two bodies differ, it writes them as the file's steps carried them, the type
+/// of K to the start of `left` and U to the start of `right`; if either buffer is too short, neither is written. On a thread of
+/// its own, as `check`.
+///
+/// # Panics
+///
+/// If no thread can be started.
+pub fn explain(file: &[u8], left: &mut [u8], right: &mut [u8]) -> Explanation {
+    on_own_stack(|| {
+        // SAFETY: as above.
+        unsafe { explain_here(file, left, right) }
+    })
+}
+
 fn on_own_stack<A: Send>(work: impl FnOnce() -> A + Send) -> A {
     thread::scope(|scope| {
         let thread = thread::Builder::new().stack_size(CHECK_STACK_BYTES).spawn_scoped(scope, work);
@@ -210,6 +275,10 @@ fn on_own_stack<A: Send>(work: impl FnOnce() -> A + Send) -> A {
 pub unsafe fn check_here(file: &[u8]) -> CheckAnswer {
     let mut a = [0; 4];
     raw::bijterne_check(file.as_ptr(), file.len(), &mut a);
+    checked(a)
+}
+
+fn checked(a: [u64; 4]) -> CheckAnswer {
     CheckAnswer { number: a[0] as u32, place: a[1] as usize, comparisons: a[2] as usize, degree: a[3] as usize }
 }
 
@@ -230,7 +299,39 @@ pub unsafe fn check_set_here(set: &[u8]) -> SetAnswer {
     }
 }
 
-/// Checks files and sets one after the other, on a thread of its own that lives as long as the `Checker`.
+/// Explains a file on the caller's stack.
+///
+/// # Safety
+///
+/// As for `check_here`.
+pub unsafe fn explain_here(file: &[u8], left: &mut [u8], right: &mut [u8]) -> Explanation {
+    let mut a = [0; 8];
+    let (l, r) = (left.len(), right.len());
+    raw::bijterne_explain(file.as_ptr(), file.len(), left.as_mut_ptr(), l, right.as_mut_ptr(), r, &mut a);
+    explained(a)
+}
+
+fn explained(a: [u64; 8]) -> Explanation {
+    let answer = checked([a[0], a[1], a[2], a[3]]);
+    let ground = match answer.number {
+        number::BODIES_DIFFER => Ground::Bodies { left: a[4] as usize, right: a[5] as usize, difference: a[6] as usize },
+        number::STEP_NOT_POSSIBLE => Ground::Step { side: side(a[4]), step: a[5] as usize, condition: condition(a[6]) },
+        number::STILL_WAITING => Ground::Waiting { how_many: a[4] as usize },
+        _ => Ground::AnswerAlone,
+    };
+    Explanation { answer, ground }
+}
+
+fn side(number: u64) -> Side {
+    [Side::Left, Side::Right].into_iter().find(|&side| side as u64 == number).expect("there are two sides")
+}
+
+fn condition(number: u64) -> Condition {
+    let conditions = [Condition::Kind, Condition::Place, Condition::Byte, Condition::NoPartner, Condition::StillUsed];
+    conditions.into_iter().find(|&condition| condition as u64 == number).expect("there are five conditions")
+}
+
+/// Checks files and sets and explains files, one after the other, on a thread of its own that lives as long as the `Checker`.
 pub struct Checker {
     /// None once it is dropped, which ends the thread.
     calls: Option<SyncSender<Call>>,
@@ -238,18 +339,21 @@ pub struct Checker {
     thread: Option<thread::JoinHandle<()>>,
 }
 
-/// A file or a set that its owner keeps until the answer has come.
+/// A file or a set that its owner keeps until the answer has come, and the two buffers lent until then.
 enum Call {
-    File(*const u8, usize),
-    Set(*const u8, usize),
+    File(*const [u8]),
+    Set(*const [u8]),
+    Explain(*const [u8], *mut [u8], *mut [u8]),
 }
 
-// SAFETY: `Checker` holds the bytes borrowed while the thread reads them, and nobody writes them.
+// SAFETY: `Checker` holds the bytes borrowed while the thread reads them, and nobody writes them; it holds the buffers mutably
+// borrowed while the thread writes them, and nobody else has them.
 unsafe impl Send for Call {}
 
 enum Answer {
     File(CheckAnswer),
     Set(SetAnswer),
+    Explained(Explanation),
 }
 
 impl Checker {
@@ -261,11 +365,13 @@ impl Checker {
         let (answer, answers) = sync_channel(1);
         let work = move || {
             for call in calls {
-                // SAFETY: who asks waits for the answer with the bytes borrowed; this thread's stack is as large as any check needs.
+                // SAFETY: who asks waits for the answer with bytes and buffers borrowed; this thread's stack is as large as any
+                // check needs.
                 let given = unsafe {
                     match call {
-                        Call::File(bytes, length) => Answer::File(check_here(slice::from_raw_parts(bytes, length))),
-                        Call::Set(bytes, length) => Answer::Set(check_set_here(slice::from_raw_parts(bytes, length))),
+                        Call::File(file) => Answer::File(check_here(&*file)),
+                        Call::Set(set) => Answer::Set(check_set_here(&*set)),
+                        Call::Explain(file, left, right) => Answer::Explained(explain_here(&*file, &mut *left, &mut *right)),
                     }
                 };
                 if answer.send(given).is_err() {
@@ -279,17 +385,25 @@ impl Checker {
 
     /// Checks a file. The answers are those of `check`.
     pub fn check(&mut self, file: &[u8]) -> CheckAnswer {
-        match self.ask(Call::File(file.as_ptr(), file.len())) {
+        match self.ask(Call::File(file)) {
             Answer::File(answer) => answer,
-            Answer::Set(_) => unreachable!("a file is answered as a file"),
+            _ => unreachable!("a file is answered as a file"),
         }
     }
 
     /// Checks a set. The answers are those of `check_set`.
     pub fn check_set(&mut self, set: &[u8]) -> SetAnswer {
-        match self.ask(Call::Set(set.as_ptr(), set.len())) {
+        match self.ask(Call::Set(set)) {
             Answer::Set(answer) => answer,
-            Answer::File(_) => unreachable!("a set is answered as a set"),
+            _ => unreachable!("a set is answered as a set"),
+        }
+    }
+
+    /// Explains a file. The answers, and what is written, are those of `explain`.
+    pub fn explain(&mut self, file: &[u8], left: &mut [u8], right: &mut [u8]) -> Explanation {
+        match self.ask(Call::Explain(file, left, right)) {
+            Answer::Explained(explanation) => explanation,
+            _ => unreachable!("an explanation is answered as one"),
         }
     }
 

@@ -10,10 +10,11 @@ use lib.ListN.{length}
 use Rattle.calculus.specs.Terms.{Term, size, Closed}
 use Rattle.calculus.specs.Frames.{Frame, depth, ClosedFrame}
 use Rattle.calculus.specs.Types.{type}
-use Rattle.calculus.specs.Steps.{Step, Reason, unknown-kind, past-end, wrong-symbol, no-partner, still-used, step, reached, refused}
+use Rattle.calculus.specs.Steps.{Step, Reason, wrong-symbol, step, reached, refused}
 use Rattle.code.specs.Limits.{longestTerm, mostAbstractors}
 use Rattle.code.specs.Scope.{scope}
 use Rattle.verdict.specs.Bounds.{bodyFits}
+unfoldable pub use Rattle.verdict.specs.Verdict.{reasonNumber}
 use Rattle.frames.specs.declared.FrameRecord.{FrameRecord}
 use Rattle.frames.specs.Stored.{Stored}
 use Rattle.letters.specs.Letters.{Lies}
@@ -44,14 +45,6 @@ pub record InBody (w : List ℕ) (f : FrameRecord) (s : List ℕ) (n p : ℕ) : 
 pub data FormAs (w : List ℕ) (f : FrameRecord) (s : List ℕ) (R : Frame) (u : Term) : Form → Type 0 where
   form-outgrown : bodyFits R u ≡ false → FormAs w f s R u Outgrown
   form-held : {m : ℕ} → bodyFits R u ≡ true → m ≡ size u → Held w f s m R u → FormAs w f s R u (Length m)
-
--- Why a step is refused, by number, in the order in which it is tried.
-unfoldable pub reasonNumber : Reason → ℕ
-reasonNumber unknown-kind = 1
-reasonNumber past-end = 2
-reasonNumber wrong-symbol = 3
-reasonNumber no-partner = 4
-reasonNumber still-used = 5
 
 -- What an answer says of the step z on the body t after R; s′ is the array afterwards.
 pub data SteppedAs (w : List ℕ) (f : FrameRecord) (s′ : List ℕ) (R : Frame) (z : Step) (t : Term) : Form → Type 0 where

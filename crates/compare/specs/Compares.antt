@@ -16,7 +16,8 @@ use Rattle.frames.specs.Stored.{Stored}
 use Rattle.letters.specs.Letters.{Lies}
 use Rattle.bodies.specs.Held.{Held, SomeHeld, reasonNumber}
 use Rattle.verdict.specs.Bounds.{bodyFits}
-use Rattle.verdict.specs.Verdict.{same-at, Side, left-side, right-side, Ground, untyped, no-group, step-refused, type-outgrown, domain-outgrown, step-outgrown, bodies-differ, placeOf, Progress, Run, passed, stopped, Status, done, withGroup, toTurn, finish}
+use Rattle.verdict.specs.Verdict.{same-at, Side, Ground, untyped, no-group, step-refused, type-outgrown, domain-outgrown, step-outgrown, bodies-differ, placeOf, Progress, Run, passed, stopped, Status, done, withGroup, toTurn, finish}
+unfoldable pub use Rattle.verdict.specs.Verdict.{sideNumber}
 use Rattle.compare.specs.declared.Compared.{Compared}
 use Rattle.compare.specs.Replays.{Leads}
 
@@ -34,10 +35,6 @@ pub record Comparing (file w : List ℕ) (at : ℕ) (f : FrameRecord) (m e : ℕ
   pub domain-stands : Stands w (suc m) e domain
   pub groups : List GroupAt
   pub stand : Groups file at groups
-
-unfoldable pub sideNumber : Side → ℕ
-sideNumber left-side = 0
-sideNumber right-side = 1
 
 -- The ground of a stop in numbers; a and b are the arrays of the two bodies after it.
 pub data GroundIs (r : Compared) (a b : List ℕ) : Ground → Type 0 where

@@ -10,6 +10,7 @@ use Rattle.files.specs.Check.{CheckAnswer}
 use Rattle.calls.specs.Answers.{Written, nothing, answer}
 use Rattle.counting.specs.declared.CountAnswer.{CountAnswer}
 use Rattle.sets.specs.declared.SetAnswer.{SetAnswer}
+use Rattle.explaining.specs.Explain.{Explanation}
 
 abbrev pub termNumbers : TermAnswer → List ℕ
 termNumbers a = a .number ∷ a .place ∷ a .degree ∷ []
@@ -44,3 +45,12 @@ bufferOf (answer _ _ _ out) = out
 pub record Given (w : Written) (before after out : List ℕ) : Type 0 where
   pub numbers : after ≡ numbersOf before w
   pub buffer : out ≡ bufferOf w
+
+-- The explaining call: the check's four numbers, three more, and 0; and the two buffers.
+abbrev pub explainNumbers : Explanation → List ℕ
+explainNumbers x = x .answer .number ∷ x .answer .place ∷ x .answer .comparisons ∷ x .answer .degree ∷ x .first ∷ x .second ∷ x .third ∷ 0 ∷ []
+
+pub record Explains (x : Explanation) (after left right : List ℕ) : Type 0 where
+  pub numbers : after ≡ explainNumbers x
+  pub left-buffer : left ≡ x .left
+  pub right-buffer : right ≡ x .right

@@ -7,8 +7,9 @@ ghost use Rattle.files.specs.Check.{checkFile};
 ghost use Rattle.calls.specs.Answers.{typeAnswer, stepAnswer};
 ghost use Rattle.printing.specs.Page.{printAnswer};
 ghost use Rattle.counting.specs.Counts.{countAnswer};
+ghost use Rattle.explaining.specs.Explain.{explainFile};
 ghost use Rattle.sets.specs.Sets.{checkSet};
-ghost use Rattle.exports.specs.Numbers.{termNumbers, fileNumbers, checkNumbers, countNumbers, setNumbers, noneOf, Given};
+ghost use Rattle.exports.specs.Numbers.{termNumbers, fileNumbers, checkNumbers, countNumbers, setNumbers, noneOf, Given, Explains};
 
 // Number, place, degree.
 #[no_mangle]
@@ -127,5 +128,36 @@ pub extern "C" fn bijterne_check_set(s: &[u8], answer: &mut [u64; 5])
         place as u64,
         comparisons as u64,
         degree as u64,
+    ];
+}
+
+// Number, place, comparisons completed, degree; then for 12 the lengths of the two bodies and the first difference, for 10 side, step and
+// condition, for 8 how many wait; then 0s.
+#[no_mangle]
+pub extern "C" fn bijterne_explain(
+    s: &[u8],
+    left: &mut [u8],
+    right: &mut [u8],
+    answer: &mut [u64; 8],
+)
+    ensures { λ r. ⌜ Explains (explainFile (now (s .entry)) (now (left .entry)) (now (right .entry))) (now (answer .exit)) (now (left .exit)) (now (right .exit)) ⌝ }
+{
+    let a = explaining::explain(s, left, right);
+    let number = a.number;
+    let place = a.place;
+    let comparisons = a.comparisons;
+    let degree = a.degree;
+    let first = a.first;
+    let second = a.second;
+    let third = a.third;
+    *answer = [
+        number as u64,
+        place as u64,
+        comparisons as u64,
+        degree as u64,
+        first as u64,
+        second as u64,
+        third as u64,
+        0,
     ];
 }

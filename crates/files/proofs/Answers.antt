@@ -58,16 +58,16 @@ refused-opened : {A : Type 0} {n p : ℕ} {t : Term} {e : ℕ} {gs : List GroupA
 refused-opened q = let z : _≡_ {A = ℕ} 0 1 = cc in let y : ⊥ = omega arith in absurd y
 
 -- the term of an opened file was accepted
-record Opens (s : List ℕ) (t : Term) (e : ℕ) (gs : List GroupAt) : Type 0 where
-  fields-are : readFile s ≡ fields.accepted e gs
-  term-is : examined (termBytes s e) ≡ term.accepted t
+pub record Opens (s : List ℕ) (t : Term) (e : ℕ) (gs : List GroupAt) : Type 0 where
+  pub fields-are : readFile s ≡ fields.accepted e gs
+  pub term-is : examined (termBytes s e) ≡ term.accepted t
 
 open-term : (s : List ℕ) (e f : ℕ) (gs hs : List GroupAt) (x : Examined) (t : Term) → openTerm e gs x ≡ opened t f hs → (x ≡ term.accepted t) × (e ≡ f) × (gs ≡ hs)
 unfolding openTerm
 open-term s e f gs hs (term.refused n p) t q = refused-opened q
 open-term s e f gs hs (term.accepted u) t q = (ap term.accepted (opened-inj-term q .0), opened-inj-term q .1, opened-inj-term q .2)
 
-opens : (s : List ℕ) (t : Term) (e : ℕ) (gs : List GroupAt) → openFile s ≡ opened t e gs → Opens s t e gs
+pub opens : (s : List ℕ) (t : Term) (e : ℕ) (gs : List GroupAt) → openFile s ≡ opened t e gs → Opens s t e gs
 unfolding openFile openFields
 opens s t e gs q = go (readFile s) refl q
   where
@@ -96,7 +96,7 @@ opens-closed {s} {t} {e} b o = examining-holds .accepts (termBytes s e) t (term-
 refused-inj : {n m p q : ℕ} → refused n p ≡ refused m q → n ≡ m
 refused-inj e = cc
 
-before-numbers : (s : List ℕ) {n p : ℕ} → openFile s ≡ refused n p → (1 ≤ n) × (n ≤ 6)
+pub before-numbers : (s : List ℕ) {n p : ℕ} → openFile s ≡ refused n p → (1 ≤ n) × (n ≤ 6)
 unfolding openFile openFields openTerm
 before-numbers s {n} {p} q = go (readFile s) refl q
   where
@@ -117,10 +117,10 @@ drop-none n l h = omega (arith, length-drop n l, ap length h)
 
 -- of a file that opens
 module _ (s : List ℕ) (t : Term) (e : ℕ) (gs : List GroupAt) (o : Opens s t e gs) (b : Bytes s) where
-  closed : Closed 0 t
+  pub closed : Closed 0 t
   closed = opens-closed b o
 
-  holds-just : s ≡ writeFile (encode t) (groupsOf gs)
+  pub holds-just : s ≡ writeFile (encode t) (groupsOf gs)
   holds-just =
       let d = examining-holds .accepts (termBytes s e) t (term-bytes s e b) .0 (o .term-is) .decodes in
       only-written (record { small = b }) (o .fields-are) ∙ ap (λ (l : List ℕ). writeFile l (groupsOf gs)) (sym (encode-decode (termBytes s e) t (term-bytes s e b) d .bytes))

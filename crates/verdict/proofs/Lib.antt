@@ -8,3 +8,5 @@ pub mod Promises
 pub mod Table
 pub mod Former
 pub mod Later
+pub mod Grounds
+pub mod Closed

@@ -1,7 +1,7 @@
 -- Runs taken apart and put together.
 -- Assumes nothing.
 use Prim.Native.Nat.{ℕ}
-use mathlib.Core.Path.{_≡_, refl, ap, ap₂}
+use mathlib.Core.Path.{_≡_, refl, ap, ap₂, sym, _∙_}
 use mathlib.Core.Bool.{Bool, true, false, cond}
 use native.Mathlib.Omega.{arith}
 use borrow.Author.Tests.{eqb-true, eq-eqb}
@@ -46,3 +46,6 @@ identical-refl tau = refl
 identical-refl (var k) = eq-eqb k k refl
 identical-refl (app K B) = rw (identical-refl K) (identical-refl B)
 identical-refl (abs U B) = rw (identical-refl U) (identical-refl B)
+
+pub not-identical : (l r : Term) → identical l r ≡ false → l ≡ r → ⊥
+not-identical l r e q = false-true (sym e ∙ ap (identical l) (sym q) ∙ identical-refl l)

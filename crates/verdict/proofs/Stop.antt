@@ -15,7 +15,7 @@ use Rattle.calculus.specs.Walks as Walks
 use Rattle.calculus.proofs.Agree.{length-liftAll}
 use Rattle.calculus.proofs.Copy.{copying}
 use Rattle.verdict.specs.Verdict.{Item, state-at, Ground, groundOf, Progress, turned, Run, passed, stopped, number}
-use Rattle.verdict.specs.Claims.{progressOf}
+use Rattle.verdict.specs.Claims.{progressOf, waitingIn}
 use Rattle.verdict.proofs.Turns.{Numbered}
 use Rattle.verdict.proofs.BigStep.{BigStep, big-end, big-outgrown, big-wanting, big-asks, big-met, big-refused}
 use Rattle.verdict.proofs.Sound.{Asks, asks-none, asks-state, asks-same, asks-next}
@@ -50,17 +50,25 @@ may [] = 0
 may (holds s ∷ qs) = mayState s + may qs
 may (same c ∷ qs) = suc (may qs)
 
-abbrev NoMore : ℕ → Next → Type 0
-NoMore n (asks qs) = may qs ≤ n
-NoMore n (stops x) = Unit {0}
+-- at most n wait in each state, and in own text at most one more
+abbrev pub FewWait : ℕ → List Question → Type 0
+FewWait n [] = Unit {0}
+FewWait n (holds (own R W B) ∷ qs) = (length W ≤ suc n) × FewWait n qs
+FewWait n (holds (copied R W Y B) ∷ qs) = (length W ≤ n) × FewWait n qs
+FewWait n (same c ∷ qs) = FewWait n qs
 
-typed-no-more : (o : Option Entry) (R : Frame) (W Y : List Term) (k : ℕ) → NoMore (length W) (typed o (λ e. copied R W Y (lift k 0 (domain e))))
-unfolding typed may mayState
+-- no rule asks for more of either
+abbrev NoMore : State → Next → Type 0
+NoMore s (asks qs) = (may qs ≤ mayState s) × FewWait (length (waitingIn s)) qs
+NoMore s (stops x) = Unit {0}
+
+typed-no-more : (o : Option Entry) (R : Frame) (W Y : List Term) (k : ℕ) → NoMore (copied R W Y (var k)) (typed o (λ e. copied R W Y (lift k 0 (domain e))))
+unfolding typed may mayState waitingIn
 typed-no-more none R W Y k = tt
 typed-no-more (some e) R W Y k = omega arith
 
-rule-no-more : (s : State) → NoMore (mayState s) (onePassNext s)
-unfolding onePassNext may mayState applicators
+rule-no-more : (s : State) → NoMore s (onePassNext s)
+unfolding onePassNext may mayState waitingIn applicators
 rule-no-more (own R [] tau) = omega arith
 rule-no-more (own R (K ∷ W) tau) = tt
 rule-no-more (own R W (app K B)) = omega arith
@@ -76,7 +84,7 @@ rule-no-more (copied R [] [] (abs U B)) = omega arith
 rule-no-more (copied R (K ∷ W) [] (abs U B)) = omega (arith, length-liftAll W)
 rule-no-more (copied R W (K ∷ Y) (abs U B)) = omega (arith, length-liftAll W)
 
-no-more : (s : State) {qs : List Question} → onePassNext s ≡ asks qs → may qs ≤ mayState s
+pub no-more : (s : State) {qs : List Question} → onePassNext s ≡ asks qs → (may qs ≤ mayState s) × FewWait (length (waitingIn s)) qs
 no-more s e = rw e at (rule-no-more s)
 
 may-append : (ps qs : List Question) → may (ps ++ qs) ≡ may ps + may qs
@@ -90,7 +98,7 @@ unfolding progressOf turned may
 at-most big-end a = omega arith
 at-most (big-outgrown h) a = omega arith
 at-most (big-wanting h e) a = omega arith
-at-most (big-asks {i = i} {ws} {s} {qs = ps} h e b) (asks-state {qs = qs} a) = omega (arith, at-most b (asks-next i ws ps a), may-append ps qs, no-more s e)
+at-most (big-asks {i = i} {ws} {s} {qs = ps} h e b) (asks-state {qs = qs} a) = omega (arith, at-most b (asks-next i ws ps a), may-append ps qs, no-more s e .0)
 at-most (big-met m b) (asks-same a) = omega (arith, at-most b a, m .counted)
 at-most (big-refused r) a = omega (arith, r .moved .comparisons)
 

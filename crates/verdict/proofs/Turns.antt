@@ -12,13 +12,13 @@ use Rattle.calculus.specs.Terms.{Term}
 use Rattle.calculus.specs.Frames.{Frame}
 use Rattle.calculus.specs.Types.{type}
 use Rattle.calculus.specs.Steps.{Step, Reason, Outcome, reached, refused, thenOutcome, step, replayBy, replay}
-use Rattle.calculus.specs.Rules.{Group, Same}
+use Rattle.calculus.specs.Rules.{Group, Same, compare, Question, same}
 use Rattle.calculus.proofs.Weaken.{reached-inj}
 use Rattle.verdict.specs.Bounds.{bodyFits}
 use Rattle.verdict.specs.Verdict.{Item, same-at, Side, Ground, untyped, something-waits, no-group, step-refused, state-outgrown, type-outgrown, domain-outgrown, step-outgrown, bodies-differ, number}
 use Rattle.verdict.specs.Verdict.{Progress, turned, completed, Run, stopped, OtherSide, right-next, left-reached, sideOf, Configuration, on-step, Status, at-turn, done, identical, formsMeet, sideFrom, withGroup, withType, toTurn, stepped, turnBy, turn, onward, runBy, run, steps}
-use Rattle.verdict.specs.Claims.{FormsFit, no-form, next-form, SameFits}
-use Rattle.verdict.proofs.Runs.{identical-eq, identical-refl}
+use Rattle.verdict.specs.Claims.{FormsFit, no-form, next-form, SameFits, SideStops, stops-refused, stops-outgrown, stops-later, StopsAt, no-type, group-missing, outgrown-type, outgrown-domain, left-stops, right-stops, forms-differ}
+use Rattle.verdict.proofs.Runs.{identical-eq, identical-refl, not-identical}
 
 suc-add : (j k : ℕ) → suc j + k ≡ suc (j + k)
 suc-add j k = omega arith
@@ -85,32 +85,57 @@ unfoldable more-steps : OtherSide → ℕ
 more-steps (right-next rs r) = length rs
 more-steps (left-reached l) = 0
 
+-- why it stops: at a step of the side; after the left side, on the right one; or at the two forms
+data Halting (place : ℕ) (R : Frame) : OtherSide → ℕ → List Step → Term → Ground → Type 0 where
+  in-side : {o : OtherSide} {n : ℕ} {ss : List Step} {t : Term} {g : Ground} → SideStops place (sideOf o) R n ss t g → Halting place R o n ss t g
+  turned-over : {n : ℕ} {ss rs : List Step} {t l r : Term} {g : Ground} → Reaches R ss t l → Halting place R (left-reached l) 0 rs r g → Halting place R (right-next rs r) n ss t g
+  differ : {n : ℕ} {ss : List Step} {t l r : Term} → Reaches R ss t r → (l ≡ r → ⊥) → Halting place R (left-reached l) n ss t (bodies-differ place l r)
+
+halts-later : {place n : ℕ} {R : Frame} {o : OtherSide} {s : Step} {ss : List Step} {t u : Term} {g : Ground} → step R s t ≡ reached u → bodyFits R u ≡ true → Halting place R o (suc n) ss u g
+    → Halting place R o n (s ∷ ss) t g
+halts-later q h (in-side a) = in-side (stops-later q a)
+halts-later q h (turned-over l a) = turned-over (reach-step q h l) a
+halts-later q h (differ r d) = differ (reach-step q h r) d
+
+-- the form that the steps of a body within the limits reach
+last-fits : {R : Frame} {ss : List Step} {t f : Term} → bodyFits R t ≡ true → FormsFit R ss t → replay R ss t ≡ reached f → bodyFits R f ≡ true
+unfolding replayBy thenOutcome
+last-fits b no-form e = rw (← reached-inj e) b
+last-fits {R} b (next-form {ss = ss} h c d) e = last-fits c d (ap (λ (x : Outcome). thenOutcome x (replay R ss)) (sym h) ∙ e)
+
+halts-at : {place : ℕ} {R : Frame} {K U T : Term} {qs : List Question} {g : Group} {gs : List Group} {x : Ground} → type R K ≡ some T → bodyFits R T ≡ true → bodyFits R U ≡ true
+    → Halting place R (right-next (g .right) U) 0 (g .left) T x → StopsAt (same (compare R K U) ∷ qs) (g ∷ gs) x
+unfolding sideOf
+halts-at h a b (in-side s) = left-stops h s
+halts-at h a b (turned-over l (in-side s)) = right-stops h (l .reaches) s
+halts-at h a b (turned-over l (differ r d)) = forms-differ h (l .reaches) (r .reaches) (last-fits a (l .fits) (l .reaches)) (last-fits b (r .fits) (r .reaches)) d
+
 -- the bodies are found identical, and what is asked after at-turn on; or it stops
-data Joined (R : Frame) (o : OtherSide) (ss : List Step) (t : Term) (p : Progress) (go : List Item → Status) : Type 0 where
+data Joined (place : ℕ) (R : Frame) (o : OtherSide) (n : ℕ) (ss : List Step) (t : Term) (p : Progress) (go : List Item → Status) : Type 0 where
   joins : (f : Term) (k : ℕ) (q : Progress) → Meeting R o f → Reaches R ss t f → k ≡ length ss + more-steps o → Moved k p q
-      → ((rest : List Item) → Leads k (go rest) (toTurn rest (completed q))) → Joined R o ss t p go
-  halts : (g : Ground) (k : ℕ) (q : Progress) → Numbered g → k ≤ length ss + more-steps o → Moved k p q
-      → ((rest : List Item) → Leads k (go rest) (done (stopped g q))) → Joined R o ss t p go
+      → ((rest : List Item) → Leads k (go rest) (toTurn rest (completed q))) → Joined place R o n ss t p go
+  halts : (g : Ground) (k : ℕ) (q : Progress) → Halting place R o n ss t g → Numbered g → k ≤ length ss + more-steps o → Moved k p q
+      → ((rest : List Item) → Leads k (go rest) (done (stopped g q))) → Joined place R o n ss t p go
 
 module _ (place : ℕ) (R : Frame) (o : OtherSide) where
   abbrev JoinedFrom : ℕ → List Step → Term → Progress → Type 0
-  JoinedFrom n ss t p = Joined R o ss t p (λ rest. sideFrom place R o n ss t rest (toTurn rest) p)
+  JoinedFrom n ss t p = Joined place R o n ss t p (λ rest. sideFrom place R o n ss t rest (toTurn rest) p)
 
   -- a step more
   join-step : (n : ℕ) (s : Step) (ss : List Step) (t : Term) (p : Progress) → ((u : Term) → JoinedFrom (suc n) ss u (turned 1 p)) → JoinedFrom n (s ∷ ss) t p
   unfolding sideFrom turnBy stepped number
   join-step n s ss t p = go (step R s t) refl
     where
-      stop : (g : Ground) → Numbered g → ((rest : List Item) → turn (on-step place R o n s ss t rest) (turned 1 p) ≡ done (stopped g (turned 1 p))) → JoinedFrom n (s ∷ ss) t p
-      stop g x e = halts g 1 (turned 1 p) x (omega arith) (moved-one (moved-none (turned 1 p))) (λ rest. turn-to (on-step place R o n s ss t rest) p (e rest) here)
+      stop : (g : Ground) → Halting place R o n (s ∷ ss) t g → Numbered g → ((rest : List Item) → turn (on-step place R o n s ss t rest) (turned 1 p) ≡ done (stopped g (turned 1 p))) → JoinedFrom n (s ∷ ss) t p
+      stop g y x e = halts g 1 (turned 1 p) y x (omega arith) (moved-one (moved-none (turned 1 p))) (λ rest. turn-to (on-step place R o n s ss t rest) p (e rest) here)
 
       at : (u : Term) → step R s t ≡ reached u → JoinedFrom (suc n) ss u (turned 1 p) → (b : Bool) → bodyFits R u ≡ b → JoinedFrom n (s ∷ ss) t p
       at u q (joins f k x a b c m e) true h = joins f (suc k) x a (reach-step q h b) (omega arith) (moved-one m) (λ rest. turn-to (on-step place R o n s ss t rest) p (rw (q, h)) (e rest))
-      at u q (halts g k x a c m e) true h = halts g (suc k) x a (omega arith) (moved-one m) (λ rest. turn-to (on-step place R o n s ss t rest) p (rw (q, h)) (e rest))
-      at u q j false h = stop (step-outgrown place (sideOf o) n) (omega arith) (λ rest. rw (q, h))
+      at u q (halts g k x y a c m e) true h = halts g (suc k) x (halts-later q h y) a (omega arith) (moved-one m) (λ rest. turn-to (on-step place R o n s ss t rest) p (rw (q, h)) (e rest))
+      at u q j false h = stop (step-outgrown place (sideOf o) n) (in-side (stops-outgrown q h)) (omega arith) (λ rest. rw (q, h))
 
       go : (x : Outcome) → step R s t ≡ x → ((u : Term) → JoinedFrom (suc n) ss u (turned 1 p)) → JoinedFrom n (s ∷ ss) t p
-      go (refused why) q ih = stop (step-refused place (sideOf o) n why) (omega arith) (λ rest. rw q)
+      go (refused why) q ih = stop (step-refused place (sideOf o) n why) (in-side (stops-refused q)) (omega arith) (λ rest. rw q)
       go (reached u) q ih = at u q (ih u) (bodyFits R u) refl
 
 right-ends : (place : ℕ) (R : Frame) (l : Term) (n : ℕ) (ss : List Step) (t : Term) (p : Progress) → JoinedFrom place R (left-reached l) n ss t p
@@ -119,7 +144,7 @@ right-ends place R l n [] t p = go (identical l t) refl
   where
     go : (b : Bool) → identical l t ≡ b → JoinedFrom place R (left-reached l) n [] t p
     go true q = joins t 0 p (identical-eq l t q) (reach-none refl) refl (moved-none p) (λ rest. leads-from (rw q) here)
-    go false q = halts (bodies-differ place l t) 0 p (omega arith) (omega arith) (moved-none p) (λ rest. leads-from (rw q) here)
+    go false q = halts (bodies-differ place l t) 0 p (differ (reach-none refl) (not-identical l t q)) (omega arith) (omega arith) (moved-none p) (λ rest. leads-from (rw q) here)
 right-ends place R l n (s ∷ ss) t p = join-step place R (left-reached l) n s ss t p (λ u. right-ends place R l (suc n) ss u (turned 1 p))
 
 -- where the left side is through, the right side begins
@@ -135,7 +160,7 @@ left-ends place R rs r n [] t p = go (right-ends place R t 0 rs r p)
   where
     go : JoinedFrom place R (left-reached t) 0 rs r p → JoinedFrom place R (right-next rs r) n [] t p
     go (joins f k q a b c m e) = joins f k q b (reach-none a) (omega arith) m (λ rest. leads-from (turn-over place R rs r n t rest (toTurn rest) p) (e rest))
-    go (halts g k q x c m e) = halts g k q x (omega arith) m (λ rest. leads-from (turn-over place R rs r n t rest (toTurn rest) p) (e rest))
+    go (halts g k q y x c m e) = halts g k q (turned-over (reach-none refl) y) x (omega arith) m (λ rest. leads-from (turn-over place R rs r n t rest (toTurn rest) p) (e rest))
 left-ends place R rs r n (s ∷ ss) t p = join-step place R (right-next rs r) n s ss t p (λ u. left-ends place R rs r (suc n) ss u (turned 1 p))
 
 -- the steps of a comparison that is met
@@ -178,6 +203,7 @@ pub record Meets (place : ℕ) (R : Frame) (K U : Term) (p q : Progress) (k : �
 
 pub record Refuses (place : ℕ) (R : Frame) (K U : Term) (p : Progress) (g : Ground) (q : Progress) (k : ℕ) : Type 0 where
   pub numbered : Numbered g
+  pub stops-at : (qs : List Question) → StopsAt (same (compare R K U) ∷ qs) (p .left) g
   pub moved : Moved k p q
   pub many : k ≤ steps (p .left)
   pub leads : (rest : List Item) → Leads k (toTurn (same-at place R K U ∷ rest) p) (done (stopped g q))
@@ -187,8 +213,8 @@ pub data Compared (place : ℕ) (R : Frame) (K U : Term) (p : Progress) : Type 0
   refuses : {g : Ground} {q : Progress} {k : ℕ} → Refuses place R K U p g q k → Compared place R K U p
 
 module _ (place : ℕ) (R : Frame) (K U : Term) (p : Progress) where
-  at-once : (g : Ground) → Numbered g → ((rest : List Item) → toTurn (same-at place R K U ∷ rest) p ≡ done (stopped g p)) → Compared place R K U p
-  at-once g n e = refuses (record { numbered = n; moved = moved-none p; many = omega arith; leads = λ rest. leads-from (e rest) here })
+  at-once : (g : Ground) → Numbered g → ((qs : List Question) → StopsAt (same (compare R K U) ∷ qs) (p .left) g) → ((rest : List Item) → toTurn (same-at place R K U ∷ rest) p ≡ done (stopped g p)) → Compared place R K U p
+  at-once g n x e = refuses (record { numbered = n; stops-at = x; moved = moved-none p; many = omega arith; leads = λ rest. leads-from (e rest) here })
 
   of-sides : (T : Term) (g : Group) (gs : List Group) → type R K ≡ some T → p .left ≡ g ∷ gs → bodyFits R T ≡ true → bodyFits R U ≡ true
       → ((rest : List Item) → toTurn (same-at place R K U ∷ rest) p ≡ sideFrom place R (right-next (g .right) U) 0 (g .left) T rest (toTurn rest) p)
@@ -203,8 +229,8 @@ module _ (place : ℕ) (R : Frame) (K U : Term) (p : Progress) where
     many = c;
     leads = λ rest. leads-from (e rest) (d rest);
   })
-  of-sides T g gs h l a b e (halts j k q n c m d) =
-      refuses (record { numbered = n; moved = m; many = omega (arith, ap steps l); leads = λ rest. leads-from (e rest) (d rest) })
+  of-sides T g gs h l a b e (halts j k q y n c m d) =
+      refuses (record { numbered = n; stops-at = λ qs. rw l (halts-at h a b y); moved = m; many = omega (arith, ap steps l); leads = λ rest. leads-from (e rest) (d rest) })
 
   pub comparing : Compared place R K U p
   unfolding toTurn withType withGroup number
@@ -212,15 +238,15 @@ module _ (place : ℕ) (R : Frame) (K U : Term) (p : Progress) where
     where
       fitting : (T : Term) (g : Group) (gs : List Group) → type R K ≡ some T → p .left ≡ g ∷ gs → (a b : Bool) → bodyFits R T ≡ a → bodyFits R U ≡ b → Compared place R K U p
       fitting T g gs h l true true x y = of-sides T g gs h l x y (λ rest. rw (h, l, x, y)) (left-ends place R (g .right) U 0 (g .left) T p)
-      fitting T g gs h l false b x y = at-once (type-outgrown place) (omega arith) (λ rest. rw (h, l, x))
-      fitting T g gs h l true false x y = at-once (domain-outgrown place) (omega arith) (λ rest. rw (h, l, x, y))
+      fitting T g gs h l false b x y = at-once (type-outgrown place) (omega arith) (λ qs. rw l (outgrown-type h x)) (λ rest. rw (h, l, x))
+      fitting T g gs h l true false x y = at-once (domain-outgrown place) (omega arith) (λ qs. rw l (outgrown-domain h y)) (λ rest. rw (h, l, x, y))
 
       grouped : (T : Term) → type R K ≡ some T → (gs : List Group) → p .left ≡ gs → Compared place R K U p
-      grouped T h [] l = at-once (no-group place) (omega arith) (λ rest. rw (h, l))
+      grouped T h [] l = at-once (no-group place) (omega arith) (λ qs. rw l (group-missing h)) (λ rest. rw (h, l))
       grouped T h (g ∷ gs) l = fitting T g gs h l (bodyFits R T) (bodyFits R U) refl refl
 
       typed : (o : Option Term) → type R K ≡ o → Compared place R K U p
-      typed none h = at-once (untyped place) (omega arith) (λ rest. rw h)
+      typed none h = at-once (untyped place) (omega arith) (λ qs. no-type h) (λ rest. rw h)
       typed (some T) h = grouped T h (p .left) refl
 
 pub compare-complete : (place : ℕ) (R : Frame) (K U : Term) (s : Same R K U) (gs : List Group) (p : Progress) → SameFits s → p .left ≡ s .group ∷ gs

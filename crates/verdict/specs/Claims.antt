@@ -3,17 +3,19 @@
 use Prim.Native.Nat.{ℕ, zero, suc, _+_, _≤_, _<_}
 use mathlib.Core.Path.{_≡_}
 use mathlib.Core.Bool.{true, false}
+use mathlib.Core.Option.{none, some}
 use mathlib.Core.List.{List, [], _∷_, _++_}
 use lib.ListN.{length}
 use Rattle.calculus.specs.Terms.{Term, app, abs, size, applicators, Closed}
 use Rattle.calculus.specs.Frames.{Frame, ε, _▹_, single, pair}
-use Rattle.calculus.specs.Steps.{Step, Reach, Reading, base, full, Reason, step, reached}
-use Rattle.calculus.specs.Rules.{Group, Same, liftAll, State, own, Next, asks, stops, onePassNext, Holds, nothing-left, met, by-rule, OnePass, groups}
+use Rattle.calculus.specs.Steps.{Step, Reach, Reading, base, full, Reason, step, replay, reached, refused}
+use Rattle.calculus.specs.Types.{type}
+use Rattle.calculus.specs.Rules.{Group, Same, liftAll, State, own, copied, compare, Question, holds, same, waiting, Next, asks, stops, onePassNext, Holds, nothing-left, met, by-rule, OnePass, groups}
 use Rattle.calculus.specs.Whole.{NoWholes, Later}
 use Rattle.calculus.specs.Walks.{ownStates}
 use Rattle.code.specs.Refusals.{noType, bodiesDiffer}
 use Rattle.verdict.specs.Bounds.{stateFits, bodyFits}
-use Rattle.verdict.specs.Verdict.{Item, state-at, same-at, placed, Side, Ground, step-refused, state-outgrown, groundOf, Progress, turned, Run, passed, stopped, andThen, OtherSide, Configuration, on-state, on-step, Status, at-turn, done, turn, steps, finish, start, checkTermBy, checkTerm, number}
+use Rattle.verdict.specs.Verdict.{Item, state-at, same-at, placed, Side, left-side, right-side, Ground, untyped, something-waits, no-group, step-refused, state-outgrown, type-outgrown, domain-outgrown, step-outgrown, bodies-differ, groundOf, Progress, turned, Run, passed, stopped, andThen, OtherSide, Configuration, on-state, on-step, Status, at-turn, done, turn, steps, finish, start, checkTermBy, checkTerm, number}
 
 -- WITHIN THE LIMITS
 -- Every form that a list of steps carries a body to.
@@ -117,3 +119,48 @@ pub data RefusedStep : Run → Type 0 where
 
 pub record LaterRuns : Type 0 where
   pub stays : {y z : Reading} → Later y z → (t : Term) (gs : List Group) → (RefusedStep (checkTermBy y t gs) → ⊥) → checkTermBy z t gs ≡ checkTermBy y t gs
+
+-- 7. What stopped a check (request (g)) is what the one-pass rules reach.
+-- A walk from some questions has come to others, which are due; on the way every comparison was met, each with its group, in order.
+pub data Until (next : State → Next) : List Question → List Group → List Question → Type 0 where
+  until-here : {qs : List Question} → Until next qs [] qs
+  until-met : {R : Frame} {K U : Term} {qs due : List Question} {gs : List Group} (s : Same R K U) → Until next qs gs due → Until next (same (compare R K U) ∷ qs) (s .group ∷ gs) due
+  until-asks : {s : State} {ps qs due : List Question} {gs : List Group} → next s ≡ asks ps → Until next (ps ++ qs) gs due → Until next (holds s ∷ qs) gs due
+
+-- What waits in a state, but for what came with copied text.
+unfoldable pub waitingIn : State → List Term
+waitingIn (own R W B) = W
+waitingIn (copied R W Y B) = W
+
+-- A side of a comparison, from its n-th step on, counted from 0, comes to a step that is refused, or to one whose form outgrows the limits.
+pub data SideStops (place : ℕ) (side : Side) (R : Frame) : ℕ → List Step → Term → Ground → Type 0 where
+  stops-refused : {n : ℕ} {s : Step} {ss : List Step} {t : Term} {why : Reason} → step R s t ≡ refused why → SideStops place side R n (s ∷ ss) t (step-refused place side n why)
+  stops-outgrown : {n : ℕ} {s : Step} {ss : List Step} {t u : Term} → step R s t ≡ reached u → bodyFits R u ≡ false → SideStops place side R n (s ∷ ss) t (step-outgrown place side n)
+  stops-later : {n : ℕ} {s : Step} {ss : List Step} {t u : Term} {x : Ground} → step R s t ≡ reached u → SideStops place side R (suc n) ss u x → SideStops place side R n (s ∷ ss) t x
+
+-- What stops a check whose next questions and groups these are. A comparison takes the type T of K and U, and the first group: the left
+-- side, then the right one, then whether both reach one form; both forms are within the limits.
+pub data StopsAt : List Question → List Group → Ground → Type 0 where
+  outgrown-state : {place : ℕ} {s : State} {qs : List Question} {gs : List Group} → stateFits s ≡ false → StopsAt (holds s ∷ qs) gs (state-outgrown place)
+  waiting-state : {place : ℕ} {s : State} {qs : List Question} {gs : List Group} → onePassNext s ≡ stops waiting → StopsAt (holds s ∷ qs) gs (something-waits place (length (waitingIn s)))
+  no-type : {place : ℕ} {R : Frame} {K U : Term} {qs : List Question} {gs : List Group} → type R K ≡ none → StopsAt (same (compare R K U) ∷ qs) gs (untyped place)
+  group-missing : {place : ℕ} {R : Frame} {K U T : Term} {qs : List Question} → type R K ≡ some T → StopsAt (same (compare R K U) ∷ qs) [] (no-group place)
+  outgrown-type : {place : ℕ} {R : Frame} {K U T : Term} {qs : List Question} {g : Group} {gs : List Group} → type R K ≡ some T → bodyFits R T ≡ false → StopsAt (same (compare R K U) ∷ qs) (g ∷ gs) (type-outgrown place)
+  outgrown-domain : {place : ℕ} {R : Frame} {K U T : Term} {qs : List Question} {g : Group} {gs : List Group} → type R K ≡ some T → bodyFits R U ≡ false → StopsAt (same (compare R K U) ∷ qs) (g ∷ gs) (domain-outgrown place)
+  left-stops : {place : ℕ} {R : Frame} {K U T : Term} {qs : List Question} {g : Group} {gs : List Group} {x : Ground} → type R K ≡ some T → SideStops place left-side R 0 (g .left) T x → StopsAt (same (compare R K U) ∷ qs) (g ∷ gs) x
+  right-stops : {place : ℕ} {R : Frame} {K U T l : Term} {qs : List Question} {g : Group} {gs : List Group} {x : Ground} → type R K ≡ some T → replay R (g .left) T ≡ reached l → SideStops place right-side R 0 (g .right) U x
+      → StopsAt (same (compare R K U) ∷ qs) (g ∷ gs) x
+  forms-differ : {place : ℕ} {R : Frame} {K U T l r : Term} {qs : List Question} {g : Group} {gs : List Group} → type R K ≡ some T → replay R (g .left) T ≡ reached l → replay R (g .right) U ≡ reached r → bodyFits R l ≡ true → bodyFits R r ≡ true
+      → (l ≡ r → ⊥) → StopsAt (same (compare R K U) ∷ qs) (g ∷ gs) (bodies-differ place l r)
+
+-- The one-pass rules lead from the term to questions at which the check stops; the comparisons before were met, each with its group.
+pub record Stopped (t : Term) (gs : List Group) (g : Ground) (q : Progress) : Type 0 where
+  pub taken : List Group
+  pub due : List Question
+  pub walk : Until onePassNext (holds (own ε [] t) ∷ []) taken due
+  pub groups-are : gs ≡ taken ++ q .left
+  pub counted : q .comparisons ≡ length taken
+  pub stops-at : StopsAt due (q .left) g
+
+pub record Grounds : Type 0 where
+  pub stopped-so : (t : Term) (gs : List Group) (g : Ground) (q : Progress) → Closed 0 t → checkTerm t gs ≡ stopped g q → Stopped t gs g q

@@ -12,7 +12,7 @@ use lib.ListN.{length, drop, getD}
 use Rattle.calculus.specs.Terms.{Term, tau, var, app, abs, size}
 use Rattle.calculus.specs.Frames.{Frame, ε}
 use Rattle.calculus.specs.Types.{type}
-use Rattle.calculus.specs.Steps.{Step, Reading, latest, Reason, Outcome, reached, refused, stepBy}
+use Rattle.calculus.specs.Steps.{Step, Reading, latest, Reason, unknown-kind, past-end, wrong-symbol, no-partner, still-used, Outcome, reached, refused, stepBy}
 use Rattle.calculus.specs.Rules.{Group, State, own, copied, compare, Question, holds, same, Stop, waiting, waiting-copied, unbound, no-rule, Next, asks, stops, onePassNext}
 use Rattle.calculus.specs.Walks.{statesOf}
 use Rattle.code.specs.Refusals as refusals
@@ -239,3 +239,15 @@ placeOf (domain-outgrown i) = i
 placeOf (step-outgrown i s n) = i
 placeOf (bodies-differ i l r) = i
 placeOf (not-reached i) = i
+
+-- What the explaining call shows of one (request (g)): a side by number, and why a step is refused, in the order in which it is tried.
+unfoldable pub sideNumber : Side → ℕ
+sideNumber left-side = 0
+sideNumber right-side = 1
+
+unfoldable pub reasonNumber : Reason → ℕ
+reasonNumber unknown-kind = 1
+reasonNumber past-end = 2
+reasonNumber wrong-symbol = 3
+reasonNumber no-partner = 4
+reasonNumber still-used = 5

@@ -1,7 +1,7 @@
 //! All calls on small inputs, one line for each, and a page. The C example prints the same lines.
 
-use bijterne::{apply_step, check, check_set, count_strings, examine_file, examine_term, print_term, write_type};
-use bijterne::{CheckAnswer, Checker, Written, LONGEST_PAGE};
+use bijterne::{apply_step, check, check_set, count_strings, examine_file, examine_term, explain, print_term, write_type};
+use bijterne::{CheckAnswer, Checker, Ground, Side, Written, LONGEST_BODY, LONGEST_PAGE};
 use std::thread;
 
 /// [a:tau] [x:a] <x> [y:a] y, and its file: the term, then a group with no steps.
@@ -23,6 +23,15 @@ const E4: &[u8] = &[
     0x02, 0x00, 0x00, 0x03, 0x00, 0x00, // no steps
 ];
 
+/// [a:tau] [f:[x:a]tau] <f> [g:[x:tau]tau] tau, and a group with no steps: f is of another type than g.
+const UNLIKE: &[u8] = &[
+    0x01, 0x00, 0x0d, 0xff, 0x00, 0xff, 0xff, 0x01, 0x00, 0xfe, 0x01, 0xff, 0xff, 0x00, 0x00, 0x00, // the term
+    0x02, 0x00, 0x00, 0x03, 0x00, 0x00, // no steps
+];
+
+/// <tau> <tau> tau.
+const TWO_WAIT: &[u8] = &[0x01, 0x00, 0x05, 0xfe, 0x00, 0xfe, 0x00, 0x00];
+
 /// [a:tau] [x:a] x (E1 of the paper), and tau alone.
 const E1: &[u8] = &[0xff, 0x00, 0xff, 0x01, 0x01];
 const TAU: &[u8] = &[0x00];
@@ -43,7 +52,29 @@ fn show_check(what: &str, file: &[u8]) {
 }
 
 fn show(what: &str, a: CheckAnswer) {
-    println!("{what}: {} {} {} {}", a.number, a.place, a.comparisons, a.degree);
+    println!("{what}: {}", four(a));
+}
+
+fn four(a: CheckAnswer) -> String {
+    format!("{} {} {} {}", a.number, a.place, a.comparisons, a.degree)
+}
+
+/// The check's answer, and what stopped it.
+fn show_ground(what: &str, file: &[u8]) {
+    let (mut left, mut right) = ([0; LONGEST_BODY], [0; LONGEST_BODY]);
+    let explanation = explain(file, &mut left, &mut right);
+    let ground = match explanation.ground {
+        Ground::Bodies { left: l, right: r, difference } => {
+            format!(", left{}, right{}, difference at {difference}", bytes(&left[..l]), bytes(&right[..r]))
+        }
+        Ground::Step { side, step, condition } => {
+            let side = if side == Side::Left { "left" } else { "right" };
+            format!(", {side} step {step}, condition {}", condition as u32)
+        }
+        Ground::Waiting { how_many } => format!(", waiting {how_many}"),
+        Ground::AnswerAlone => String::new(),
+    };
+    println!("{what}: {}{ground}", four(explanation.answer));
 }
 
 fn show_set(what: &str, set: &[u8]) {
@@ -126,6 +157,14 @@ fn main() {
     let mut checker = Checker::new().expect("a thread can be started");
     show("check E3", checker.check(E3));
     show("check E3 without its step", checker.check(E4));
+
+    // Two bodies that differ; a step at 1 of a body of one byte; two that wait; and nothing to explain.
+    show_ground("explain a K of another type", UNLIKE);
+    let mut past = E3.to_vec();
+    past[E3.len() - 1] = 1;
+    show_ground("explain E3 with its step at 1", &past);
+    show_ground("explain two that wait", TWO_WAIT);
+    show_ground("explain E3", E3);
 
     // Two files on a shelf; the same with a file that is refused after them; and cut short.
     let mut set = Vec::new();

@@ -6,11 +6,13 @@
 //!   type N             number place length BUFFER, or none BUFFER
 //!   step KIND PLACE N  number place length BUFFER
 //!   print N            number place length BUFFER
+//!   explain M N        number place comparisons degree, three more numbers
+//!                      and 0, LEFT RIGHT
 //!   set                file-number number place comparisons degree
 //!   count LENGTH       number accepted refused-3 refused-5
 //!
-//! N is the buffer's length; it is filled with aa first and printed whole in
-//! hexadecimal.
+//! N is the buffer's length, M that of the left one; it is filled with aa first
+//! and printed whole in hexadecimal.
 //!
 //! Or shows the rules of 001 at work (src/run.rs says what a line has):
 //!
@@ -27,7 +29,7 @@
 use reference::rules::rules_page;
 use reference::run::{write_plain_run, write_run};
 use reference::{
-    apply_step, check, check_set, count_strings, examine_file, examine_term, print_term,
+    apply_step, check, check_set, count_strings, examine_file, examine_term, explain, print_term,
     write_type, StepAnswer, TypeAnswer,
 };
 use std::io::{BufWriter, Read, Write};
@@ -66,7 +68,8 @@ fn main() -> ExitCode {
 }
 
 const USAGE: &str = "\
-usage: reference [term | file | type N | step KIND PLACE N | print N | set] < input
+usage: reference [term | file | type N | step KIND PLACE N | print N | explain M N | set]
+                 < input
        reference run [plain] < input
        reference count LENGTH
        reference rules";
@@ -108,6 +111,13 @@ fn answer(arguments: &[&str], input: &[u8]) -> Option<String> {
             let mut buffer = vec![0xaa; length.parse().ok()?];
             let a = print_term(input, &mut buffer);
             Some(with_buffer(step_answer(a), &buffer))
+        }
+        ["explain", of_left, of_right] => {
+            let mut left = vec![0xaa; of_left.parse().ok()?];
+            let mut right = vec![0xaa; of_right.parse().ok()?];
+            let numbers = explain(input, &mut left, &mut right).numbers();
+            let answer = numbers.map(|number| number.to_string()).join(" ");
+            Some(with_buffer(with_buffer(answer, &left), &right))
         }
         ["set"] => {
             let a = check_set(input);
