@@ -100,6 +100,22 @@ fn check(s: &[u8]) {
     io::write_all(1, b"\n");
 }
 
+fn explain(s: &[u8]) {
+    let mut left: [u8; 4] = [0xaa; 4];
+    let mut right: [u8; 4] = [0xaa; 4];
+    let r = explaining::explain(s, &mut left, &mut right);
+    io::write_all(1, b"explain a refusal:");
+    number(r.number as usize);
+    number(r.place);
+    number(r.comparisons);
+    number(r.degree);
+    number(r.first);
+    number(r.second);
+    number(r.third);
+    bytes(&left);
+    bytes(&right);
+}
+
 fn check_set(s: &[u8]) {
     let r = sets::check_set(s);
     io::write_all(1, b"check a set:");
@@ -125,6 +141,10 @@ fn main() {
     count_strings(3);
     count_strings(8);
     check(b"\x01\x00\x09\xff\x00\xff\x01\xfe\x01\xff\x02\x01\x02\x00\x00\x03\x00\x00");
+    explain(
+        b"\x01\x00\x0d\xff\x00\xff\xff\x01\x00\xfe\x01\xff\xff\x00\x00\x00\x02\x00\x00\x03\x00\x00",
+    );
+    explain(b"\x01\x00\x05\xfe\x00\xfe\x00\x00");
     check_set(b"\x05\x00\x04\x01\x00\x01\x00\x05\x00\x04\x01\x00\x01\x00");
     check_set(b"\x05\x00\x04\x01\x00\x01\x00\x05\x00\x00");
 }

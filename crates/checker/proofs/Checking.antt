@@ -31,7 +31,7 @@ use Rattle.walk.specs.Contracts.{Answers, answer-passed, answer-stopped, Walkab
 use Rattle.walk.specs.declared.Walked.{Walked}
 use Rattle.walk.proofs.Beginning.{halts-answer}
 use Rattle.checker.specs.Answer.{CheckedAs, Checked}
-use Rattle.checker.specs.Opening.{OpenedAs, open-refused, open-term, Openable, RunAs, run-passed, run-stopped, FileWalked}
+use Rattle.checker.specs.Contracts.{OpenedAs, open-refused, open-term, Openable, RunAs, run-passed, run-stopped, FileWalked}
 use Rattle.checker.specs.declared.CheckAnswer.{CheckAnswer}
 use Rattle.checker.specs.declared.OpenAnswer.{OpenAnswer}
 use Rattle.checker.proofs.Left.{same-left, groups-drop, drop-groups}

@@ -2,7 +2,7 @@
 ghost use Rattle.compare.specs.Sides.{Buffers};
 ghost use Rattle.files.specs.File.{openFile};
 ghost use Rattle.checker.specs.Answer.{Checked};
-ghost use Rattle.checker.specs.Opening.{OpenedAs, Openable, FileWalked};
+ghost use Rattle.checker.specs.Contracts.{OpenedAs, Openable, FileWalked};
 use code::numbers::ACCEPTED;
 use code::numbers::GROUPS_LEFT;
 use code::numbers::LONGEST_TERM;

@@ -32,7 +32,7 @@ use Rattle.compare.specs.declared.Compared.{Compared}
 use Rattle.compare.specs.Compares.{GroundIs, is-untyped, is-no-group, is-refused, is-type-outgrown, is-domain-outgrown, is-step-outgrown, is-different}
 use Rattle.walk.specs.Contracts.{Halts, halts-waiting, halts-outgrown, halts-compared}
 use Rattle.walk.specs.declared.Walked.{Walked}
-use Rattle.checker.specs.Opening.{OpenedAs, Openable, RunAs, run-passed, run-stopped, FileWalked}
+use Rattle.checker.specs.Contracts.{OpenedAs, Openable, RunAs, run-passed, run-stopped, FileWalked}
 use Rattle.checker.specs.declared.OpenAnswer.{OpenAnswer}
 use Rattle.checker.proofs.Checking.{refused-is, closed-term, answer-of}
 use Rattle.explaining.specs.Explain.{Explanation, difference, handedBoth, told, explainGround, explainRun, explainOpened, explainFile}

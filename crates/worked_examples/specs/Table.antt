@@ -1,5 +1,5 @@
 -- Document 01, 'Examples to carry in the proofs': E1 with its degree and its type, E2 to E9, and example 11; some more of the type
--- and the step, with the buffer that is left: aa is a byte that was there before; and the readings of requests (a), (b), (d) and (e).
+-- and the step, with the buffer that is left: aa is a byte that was there before; and the readings of requests (a), (b), (d), (e) and (g).
 -- Assumes nothing.
 use Prim.Native.Nat.{ℕ, zero, suc}
 use mathlib.Core.Path.{_≡_}
@@ -10,23 +10,26 @@ use Rattle.calculus.specs.Steps.{Reading, pairs, base, full}
 use Rattle.files.specs.Check.{CheckAnswer, checkFileBy, checkFile}
 use Rattle.calls.specs.Answers.{Written, nothing, answer, typeAnswer, stepAnswer}
 use Rattle.printing.specs.Page.{printAnswer}
+use Rattle.explaining.specs.Explain.{Explanation, explainFile}
 use Rattle.sets.specs.declared.SetAnswer.{SetAnswer}
 use Rattle.sets.specs.Sets.{checkSet}
 
--- A call with what it is given: a term; a file; a set; a file, under a reading before a request; a term and a buffer; a term, a step's kind
--- and place, and a buffer.
+-- A call with what it is given: a term; a file; a set; a file, under a reading before a request; a file and two buffers; a term and a
+-- buffer; a term, a step's kind and place, and a buffer.
 pub data Call : Type 0 where
   examine-term check-file check-set : List ℕ → Call
   check-by : Reading → List ℕ → Call
+  explain-file : (s left right : List ℕ) → Call
   write-type print-term : List ℕ → List ℕ → Call
   apply-step : List ℕ → (kind place : ℕ) → List ℕ → Call
 
--- Its answer: number, place and degree; number, place, comparisons and degree; these with a file's number before them; 'none', or number,
--- place, length, and the buffer.
+-- Its answer: number, place and degree; number, place, comparisons and degree; these with a file's number before them, or with three
+-- numbers and the two buffers after them; 'none', or number, place, length, and the buffer.
 pub data Answer : Type 0 where
   of-term : TermAnswer → Answer
   of-file : CheckAnswer → Answer
   of-set : SetAnswer → Answer
+  of-ground : Explanation → Answer
   of-buffer : Written → Answer
 
 abbrev pub answerTo : Call → Answer
@@ -34,6 +37,7 @@ answerTo (examine-term s) = of-term (termAnswer s)
 answerTo (check-file s) = of-file (checkFile s)
 answerTo (check-set s) = of-set (checkSet s)
 answerTo (check-by y s) = of-file (checkFileBy y s)
+answerTo (explain-file s left right) = of-ground (explainFile s left right)
 answerTo (write-type s out) = of-buffer (typeAnswer s out)
 answerTo (print-term s out) = of-buffer (printAnswer s out)
 answerTo (apply-step s kind place out) = of-buffer (stepAnswer s (record { kind = kind; place = place }) out)
@@ -53,6 +57,17 @@ setGives s f n p c d = record { call = check-set s; gives = of-set (record { fil
 
 abbrev pub formerGives : Reading → List ℕ → (number place comparisons degree : ℕ) → Example
 formerGives y s n p c d = record { call = check-by y s; gives = of-file (record { number = n; place = p; comparisons = c; degree = d }) }
+
+-- A file and two buffers, what it tells, and the buffers after it.
+abbrev pub explainGives : (s left right : List ℕ) → (number place comparisons degree first second third : ℕ) → (left′ right′ : List ℕ) → Example
+explainGives s left right n p c d x y z left′ right′ = record {
+  call = explain-file s left right;
+  gives = of-ground (record { answer = record { number = n; place = p; comparisons = c; degree = d }; first = x; second = y; third = z; left = left′; right = right′ });
+}
+
+-- Where both stay as they are, empty.
+abbrev pub tells : List ℕ → (number place comparisons degree first second third : ℕ) → Example
+tells s n p c d x y z = explainGives s [] [] n p c d x y z [] []
 
 abbrev pub typeGives : (s out : List ℕ) → Written → Example
 typeGives s out w = record { call = write-type s out; gives = of-buffer w }
@@ -121,6 +136,10 @@ tau-file = file 1 (0x00 ∷ []) []
 
 abbrev pub waiting-file : List ℕ
 waiting-file = file 3 (0xfe ∷ 0x00 ∷ 0x00 ∷ []) []
+
+-- request (g): [τ][[1]τ]⟨1⟩[[τ]τ]τ, whose bodies are [2]τ and [τ]τ
+abbrev pub differing-file : List ℕ
+differing-file = file 13 (0xff ∷ 0x00 ∷ 0xff ∷ 0xff ∷ 0x01 ∷ 0x00 ∷ 0xfe ∷ 0x01 ∷ 0xff ∷ 0xff ∷ 0x00 ∷ 0x00 ∷ 0x00 ∷ []) group
 
 -- [τ]⟨1⟩[1]1 and [τ]⟨1⟩[1]2
 abbrev pub paired : ℕ → List ℕ
@@ -277,6 +296,24 @@ table =
     ∷ setGives (in-set 18 e2-file ++ in-set 24 (file 9 e2 (group ++ group))) 1 13 18 1 3
     -- and of two that are refused, the first
     ∷ setGives (in-set 18 e2-file ++ in-set 6 waiting-file ++ in-set 0 []) 1 8 0 0 1
+    -- request (g), G1: both bodies, and where they differ; bytes past them keep their values. The first is condition 12's example
+    ∷ explainGives (file 9 (0xff ∷ 0x00 ∷ 0xff ∷ 0x01 ∷ 0xfe ∷ 0x01 ∷ 0xff ∷ 0x00 ∷ 0x01 ∷ []) group) (0xaa ∷ 0xaa ∷ []) (0xaa ∷ []) 12 4 0 2 1 1 0 (0x02 ∷ 0xaa ∷ []) (0x00 ∷ [])
+    ∷ explainGives differing-file (times 4 (0xaa ∷ [])) (times 3 (0xaa ∷ [])) 12 6 0 1 3 3 1 (0xff ∷ 0x02 ∷ 0x00 ∷ 0xaa ∷ []) (0xff ∷ 0x00 ∷ 0x00 ∷ [])
+    -- G2: either buffer short, and neither written
+    ∷ explainGives differing-file (times 4 (0xaa ∷ [])) (times 2 (0xaa ∷ [])) 14 0 0 1 0 0 0 (times 4 (0xaa ∷ [])) (times 2 (0xaa ∷ []))
+    ∷ explainGives differing-file (times 2 (0xaa ∷ [])) (times 3 (0xaa ∷ [])) 14 0 0 1 0 0 0 (times 2 (0xaa ∷ [])) (times 3 (0xaa ∷ []))
+    -- G3: kind, place, byte, no partner, on the left; still used, byte, and byte at the third step, on the right
+    ∷ tells (file 9 e2 (group-of 3 (0x09 ∷ 0xff ∷ 0xff ∷ []) 0 [])) 10 4 0 3 0 0 1
+    ∷ tells (file 9 e2 (group-of 3 (0x01 ∷ 0x00 ∷ 0x01 ∷ []) 0 [])) 10 4 0 3 0 0 2
+    ∷ tells (file 9 e2 (group-of 3 (0x02 ∷ 0x00 ∷ 0x00 ∷ []) 0 [])) 10 4 0 3 0 0 3
+    ∷ tells (file 9 e2 (group-of 3 (0x01 ∷ 0x00 ∷ 0x00 ∷ []) 0 [])) 10 4 0 3 0 0 4
+    ∷ tells (file 13 inner (group ++ right-step 0x02)) 10 4 1 3 1 0 5
+    ∷ tells (file 13 inner (group ++ group-of 0 [] 3 (0x01 ∷ 0x00 ∷ 0x03 ∷ []))) 10 4 1 3 1 0 3
+    ∷ tells (file 13 inner (group ++ group-of 0 [] 9 (0x01 ∷ 0x00 ∷ 0x04 ∷ twice 0x02))) 10 4 1 3 1 2 3
+    -- G4: how many wait; G5: the four numbers alone
+    ∷ tells (file 5 (applicators 2 (0x00 ∷ [])) []) 8 2 0 1 2 0 0
+    ∷ tells e2-file 0 0 1 3 0 0 0
+    ∷ tells [] 1 0 0 0 0 0 0
     ∷ []
 
 -- One fact: each call gives its answer.
