@@ -5,6 +5,7 @@
 //!     benchmark agree SEED COUNT           fast and proved against the reference on generated files, bare terms and sets, and
 //!                                          in every count
 //!     benchmark wrapper                    the three ways to check a file from Rust
+//!     benchmark explain                    the explaining call against the check
 //!     benchmark one NAME proved|fast [N]   one input alone, N times, for a profiler
 
 mod chains;
@@ -30,6 +31,7 @@ fn main() {
         [] => benchmark(true),
         ["quick"] => benchmark(false),
         ["wrapper"] => wrapper(),
+        ["explain"] => explain(),
         ["agree", seed, count] => agree(number(seed), number(count)),
         ["one", name, which] => one(name, which, 1),
         ["one", name, which, count] => one(name, which, number(count)),
@@ -38,7 +40,7 @@ fn main() {
 }
 
 fn usage() -> ! {
-    eprintln!("usage: benchmark [quick | wrapper | agree SEED COUNT | one NAME proved|fast [N]]");
+    eprintln!("usage: benchmark [quick | wrapper | explain | agree SEED COUNT | one NAME proved|fast [N]]");
     exit(2)
 }
 
@@ -382,6 +384,36 @@ fn wrapper() {
             best[round % 3] = best[round % 3].min(from.elapsed().as_secs_f64() * 1e4);
         }
         println!("{:44} {:>10.1} {:>10.1} {:>10.1}", input.what, best[0], best[1], best[2]);
+    }
+}
+
+/// [a:U] <a> [x:V] tau with an empty group, where U and V have so many abstractors and differ in their last byte.
+fn differing(abstractors: usize) -> Vec<u8> {
+    let long = |last| [[0xff, 0].repeat(abstractors), vec![last]].concat();
+    gen::file(&[&[0xff], &long(0)[..], &[0xfe, 1, 0xff], &long(1), &[0]].concat(), &gen::empty_groups(1))
+}
+
+fn explain() {
+    println!("{:44} {:>10} {:>10} {:>8}", "input, us a call", "check", "explain", "ratio");
+    let named = inputs::ALL.into_iter().filter(|input| ["small", "book4", "nestK"].contains(&input.name));
+    let files = named.map(|input| (input.what, (input.make)())).chain([("12, two bodies of 501 bytes", differing(250))]);
+    let (mut left, mut right) = ([0; bijterne::LONGEST_BODY], [0; bijterne::LONGEST_BODY]);
+    for (what, file) in files {
+        let mut best = [u64::MAX; 2];
+        for round in 0..600 {
+            let from = now();
+            for _ in 0..20 {
+                let file = black_box(&file[..]);
+                match round % 2 {
+                    0 => drop(black_box(proved_check(file))),
+                    // SAFETY: the stack is as for the check.
+                    _ => drop(black_box(unsafe { bijterne::explain_here(file, &mut left, &mut right) })),
+                }
+            }
+            best[round % 2] = best[round % 2].min(now() - from);
+        }
+        let [check, explain] = best.map(|time| time as f64 / 20e3);
+        println!("{what:44} {check:>10.2} {explain:>10.2} {:>8.2}", explain / check);
     }
 }
 
