@@ -4,7 +4,7 @@ use Prim.Native.Nat.{ℕ, zero, suc, _+_, _*_, _-_, _≤_, _<_}
 use mathlib.Core.Path.{_≡_, refl, ap, sym, _∙_}
 use mathlib.Core.List.{List, [], _∷_}
 use native.Mathlib.Omega.{arith}
-use lib.ListN.{length, getD, drop, set, length-set, drop-of-length-le}
+use lib.ListN.{length, getD, drop, set, length-set, length-map, drop-of-length-le}
 use lib.Seq.{sets, drop-cons}
 use borrow.Author.Tests.{le-leb, lt-leb}
 use Rattle.calculus.specs.Terms.{Term, size}
@@ -127,6 +127,9 @@ print-refused s out h = sym (ap (printAnswerOf out) h)
 pub page-of-bytes : {s : List ℕ} {t : Term} → Bytes s → WellFormed s t → lines cellsInLine (cellsOf s) ≡ page t
 unfolding page
 page-of-bytes y a = ap (lines cellsInLine) (ap cellsOf (sym (encodes y a .bytes)) ∙ cells-of-bytes (encodes y a .coded))
+
+pub length-page-bytes : (s : List ℕ) → 1 ≤ length s → length (lines cellsInLine (cellsOf s)) ≡ pageLength (length s)
+length-page-bytes s h = length-page-lines (cellsOf s) (omega (arith, length-map s cellOf)) ∙ ap pageLength (length-map s cellOf)
 
 pub length-page : (t : Term) → length (page t) ≡ pageLength (size t)
 unfolding page

@@ -1,4 +1,4 @@
--- Inner contracts: a cell put into a line, and the bytes of a term as cells.
+-- Inner contracts: a cell put into a line, the bytes of a term as cells, and a mark below a cell.
 -- Assumes nothing.
 use Prim.Native.Nat.{ℕ, _+_, _≤_}
 use mathlib.Core.Path.{_≡_}
@@ -8,6 +8,10 @@ use lib.Seq.{sets}
 use Rattle.code.specs.Code.{Symbol, symbol, symbol-tau, symbol-var, symbol-app, symbol-abs}
 use Rattle.printing.specs.declared.Cell.{Cell}
 use Rattle.printing.specs.Page.{cellsInLine, letterTau, letterApplicator, letterAbstractor, letterCell, indexCell, lines}
+
+-- The byte that marks a cell.
+abbrev pub mark : ℕ
+mark = 0x5e
 
 -- The cell of a byte.
 unfoldable pub cellOfSymbol : Symbol → ℕ → Cell

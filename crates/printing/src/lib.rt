@@ -2,14 +2,14 @@
 // `write_page` and `print_term`.
 // The empty functions at the end carry the promises of specs/Claims.antt and the examples.
 ghost use mathlib.Core.Path.{_≡_};
-ghost use Prim.Native.Nat.{_+_, _%_, _≤_};
+ghost use Prim.Native.Nat.{_+_, _*_, _%_, _≤_, _<_};
 ghost use mathlib.Core.List.{[]};
-ghost use lib.ListN.{length};
+ghost use lib.ListN.{length, set};
 ghost use lib.Seq.{sets};
 ghost use Rattle.code.specs.Limits.{longestTerm};
 ghost use Rattle.calls.specs.Answers.{stepSays};
-ghost use Rattle.printing.specs.Page.{digitZero, letterCell, digit, indexCell, columns, filled, lines, cellsInLine, pageLength, printAnswer};
-ghost use Rattle.printing.specs.Contracts.{cellOf, cellsOf, PutsCell};
+ghost use Rattle.printing.specs.Page.{digitZero, letterCell, digit, indexCell, columns, filled, lines, cellsInLine, lineLength, pageLength, printAnswer};
+ghost use Rattle.printing.specs.Contracts.{mark, cellOf, cellsOf, PutsCell};
 ghost use Rattle.printing.specs.Claims.{Pages, Promises};
 ghost use Rattle.printing.specs.Examples.{Examples};
 use calls::StepAnswer;
@@ -19,11 +19,14 @@ use code::numbers::BUFFER_TOO_SHORT;
 // A buffer of this length is long enough for any page.
 pub const LONGEST_PAGE: usize = 16644;
 
-const CELLS_IN_LINE: usize = 18;
+pub const CELLS_IN_LINE: usize = 18;
 
-const LINE_LENGTH: usize = 73;
+// A line's columns and its line feed.
+pub const LINE_LENGTH: usize = 73;
 
 const LINE_FEED: u8 = 0x0a;
+
+const MARK: u8 = b'^';
 
 // Four columns.
 pub struct Cell {
@@ -140,8 +143,8 @@ fn fill_line(out: &mut [u8], at: usize, room: usize)
     out[i] = LINE_FEED;
 }
 
-// The page of the term s, which there is room for.
-fn write_page(s: &[u8], out: &mut [u8])
+// The page of the bytes s, which there is room for.
+pub fn write_page(s: &[u8], out: &mut [u8])
     requires { ⌜ length (lines cellsInLine (cellsOf (now s))) ≤ length (now out) ⌝ }
     ensures { λ r. ⌜ (now (out .exit) ≡ sets (now (out .entry)) 0 (lines cellsInLine (cellsOf (now (s .entry))))) × (length (now (out .exit)) ≡ length (now (out .entry))) ⌝ }
 {
@@ -157,8 +160,17 @@ fn write_page(s: &[u8], out: &mut [u8])
     fill_line(out, at, room);
 }
 
+// A line that has a mark below one cell of the line before it.
+pub fn write_mark(cell: usize, out: &mut [u8])
+    requires { ⌜ (cell < cellsInLine) × (lineLength ≤ length (now out)) ⌝ }
+    ensures { λ r. ⌜ (now (out .exit) ≡ set (sets (now (out .entry)) 0 (filled cellsInLine)) (4 * cell + 3) mark) × (length (now (out .exit)) ≡ length (now (out .entry))) ⌝ }
+{
+    fill_line(out, 0, CELLS_IN_LINE);
+    out[4 * cell + 3] = MARK;
+}
+
 // The length of a page of n cells.
-fn page_length(n: usize) -> usize
+pub fn page_length(n: usize) -> usize
     requires { ⌜ n ≤ longestTerm ⌝ }
     ensures { λ r. ⌜ r ≡ pageLength n ⌝ }
 {

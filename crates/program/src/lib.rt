@@ -1,12 +1,17 @@
-// The programs. `bijterne`, `page` and `shelf` read standard input and answer for the whole of it or not at all; `counts` reads nothing. If
-// the input could not be read or the answer not written, a line on standard error says why, and the exit status is 2. Reading stops with
-// the buffer full: an input of over 65,535 bytes is refused for that, however it goes on.
+// The programs. `bijterne`, `explain`, `page` and `shelf` read standard input and answer for the whole of it or not at all; `counts` reads
+// nothing. If the input could not be read or the answer not written, a line on standard error says why, and the exit status is 2. Reading
+// stops with the buffer full: an input of over 65,535 bytes is refused for that, however it goes on.
+mod explanation;
+
 ghost use mathlib.Core.Path.{_≡_};
-ghost use Prim.Native.Nat.{_≤_};
+ghost use Prim.Native.Nat.{_+_, _≤_};
 ghost use lib.ListN.{length};
 ghost use Rattle.io.specs.Counts.{Counts};
+ghost use Rattle.streams.specs.Contracts.{Added};
+ghost use Rattle.program.specs.Contracts.{answerRoom};
 use code::numbers::ACCEPTED;
 use counting::LONGEST_COUNTED;
+use explanation::LONGEST_EXPLANATION;
 use printing::LONGEST_PAGE;
 use streams::Input;
 
@@ -39,8 +44,8 @@ fn add_answer(
     comparisons: usize,
     degree: usize,
 ) -> usize
-    requires { ⌜ at ≤ length (now line) ⌝ }
-    ensures { λ r. ⌜ Counts r (now (line .exit)) × (length (now (line .exit)) ≡ length (now (line .entry))) ⌝ }
+    requires { ⌜ at + answerRoom ≤ length (now line) ⌝ }
+    ensures { λ r. ⌜ Added at answerRoom (now (line .entry)) r (now (line .exit)) ⌝ }
 {
     let after_number = streams::add_number(line, at, number as u64, b' ');
     let after_place = streams::add_number(line, after_number, place as u64, b' ');
@@ -61,6 +66,20 @@ pub extern "C" fn bijterne_run() -> i32 {
     let mut line = io::buffer();
     let end = add_answer(&mut line, 0, a.number, a.place, a.comparisons, a.degree);
     put(&line[..end], b"bijterne: standard output")
+}
+
+// `explain`: checks a file and writes the four numbers of its answer, and what they say of it. The exit status is as for `bijterne`.
+#[no_mangle]
+pub extern "C" fn explain_run() -> i32 {
+    let mut buffer = io::large_buffer();
+    let input = get(&mut buffer, b"explain: standard input");
+    if input.failed {
+        return 2;
+    }
+    let n = input.length;
+    let mut text: [u8; LONGEST_EXPLANATION] = [0; LONGEST_EXPLANATION];
+    let end = explanation::explain(&buffer[..n], &mut text);
+    put(&text[..end], b"explain: standard output")
 }
 
 // `shelf`: checks a set and writes the five numbers of its answer. The exit status is as for `bijterne`.
@@ -122,8 +141,8 @@ pub extern "C" fn counts_run() -> i32 {
 }
 
 fn add_counts(lines: &mut [u8], at: usize, n: usize) -> usize
-    requires { ⌜ at ≤ length (now lines) ⌝ }
-    ensures { λ r. ⌜ Counts r (now (lines .exit)) × (length (now (lines .exit)) ≡ length (now (lines .entry))) ⌝ }
+    requires { ⌜ at + answerRoom ≤ length (now lines) ⌝ }
+    ensures { λ r. ⌜ Added at answerRoom (now (lines .entry)) r (now (lines .exit)) ⌝ }
 {
     let a = counting::count_strings(n);
     let length = streams::add_number(lines, at, n as u64, b' ');

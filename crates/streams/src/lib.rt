@@ -1,8 +1,9 @@
-// Standard input, output and error for the programs: the whole input or a failure, and a line of numbers in one write.
+// Standard input, output and error for the programs: the whole input or a failure, and a text put together for one write.
 ghost use mathlib.Core.Path.{_≡_};
-ghost use Prim.Native.Nat.{_≤_};
+ghost use Prim.Native.Nat.{_+_, _≤_};
 ghost use lib.ListN.{length};
 ghost use Rattle.io.specs.Counts.{Counts};
+ghost use Rattle.streams.specs.Contracts.{numberRoom, Added};
 
 // What reading came to: how many bytes stand at the buffer's start, and whether a read failed.
 pub struct Input {
@@ -118,18 +119,23 @@ pub fn write_all(to: i32, s: &[u8]) -> bool {
     false
 }
 
-// Puts n in decimal and a byte after it into the line, from `at` on: where they end. A line that is too short stays as it is.
-pub fn add_number(line: &mut [u8], at: usize, n: u64, after: u8) -> usize
-    requires { ⌜ at ≤ length (now line) ⌝ }
-    ensures { λ r. ⌜ Counts r (now (line .exit)) × (length (now (line .exit)) ≡ length (now (line .entry))) ⌝ }
+// Puts a text into a longer one, from `at` on: where it ends.
+pub fn add_text(line: &mut [u8], at: usize, text: &[u8]) -> usize
+    requires { ⌜ at + length (now text) ≤ length (now line) ⌝ }
+    ensures { λ r. ⌜ Added at (length (now (text .entry))) (now (line .entry)) r (now (line .exit)) ⌝ }
 {
-    let mut text = [0u8; 20];
-    let k = io::decimal(n, &mut text);
-    if line.len() - at <= k {
-        return at;
-    }
-    let digits = &text[..k];
-    parts::copy_part(digits, 0, k, line, at);
-    line[at + k] = after;
-    at + k + 1
+    parts::copy_part(text, 0, text.len(), line, at);
+    at + text.len()
+}
+
+// Puts n in decimal and a byte after it into a text, from `at` on: where they end.
+pub fn add_number(line: &mut [u8], at: usize, n: u64, after: u8) -> usize
+    requires { ⌜ at + numberRoom ≤ length (now line) ⌝ }
+    ensures { λ r. ⌜ Added at numberRoom (now (line .entry)) r (now (line .exit)) ⌝ }
+{
+    let mut digits = [0u8; 20];
+    let k = io::decimal(n, &mut digits);
+    let end = add_text(line, at, &digits[..k]);
+    line[end] = after;
+    end + 1
 }

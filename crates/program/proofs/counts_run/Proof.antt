@@ -1,15 +1,16 @@
 -- `program::counts_run` is safe and ends.
 -- Assumes nothing.
-use Prim.Native.Nat.{_-_, _≤_}
+use Prim.Native.Nat.{_*_, _-_, _≤_}
 use mathlib.Core.Path.{_≡_}
 use lib.ListN.{length}
 use borrow.Author.Needs.{needs}
 use Rattle.io.specs.Counts.{Counts}
+use Rattle.program.specs.Contracts.{answerRoom}
 use Rattle.program.proofs.counts_run.Statement.{statement}
 use Rattle.program.proofs.counts_run.Tie as tie
 
 abbrev Inv-loop : tie.InvT-loop
-Inv-loop lines₀ end₀ n₀ t4 lines end n = Counts end lines × ((4096 ≡ length lines) × (n ≤ 8))
+Inv-loop lines₀ end₀ n₀ t4 lines end n = Counts end lines × ((end ≤ n * answerRoom) × ((4096 ≡ length lines) × (n ≤ 8)))
 
 abbrev μ-loop : tie.MeasureT-loop
 μ-loop lines₀ end₀ n₀ t4 lines end n = 8 - n

@@ -1,0 +1,3 @@
+-- The contracts of this crate.
+-- Assumes nothing.
+pub mod Contracts
