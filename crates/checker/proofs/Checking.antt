@@ -1,15 +1,15 @@
 -- What the two parts of a check, and then `check`, make of a file.
 -- Assumes nothing.
-use Prim.Native.Nat.{ℕ, zero, suc, _+_, _≤_, _<_}
+use Prim.Native.Nat.{ℕ, _+_, _≤_, _<_}
 use mathlib.Core.Path.{_≡_, refl, ap, sym, _∙_}
-use mathlib.Core.List.{List, [], _∷_, _++_, map}
+use mathlib.Core.List.{List}
 use native.Mathlib.Omega.{arith}
 use lib.ListN.{length, drop, length-append, length-map}
-use Rattle.calculus.specs.Terms.{Term, Closed}
+use Rattle.calculus.specs.Terms.{Term}
 use Rattle.calculus.specs.Frames.{ε}
 use Rattle.calculus.specs.Steps.{latest}
 use Rattle.calculus.specs.Types.{degree}
-use Rattle.calculus.specs.Rules.{Group, groups}
+use Rattle.calculus.specs.Rules.{groups}
 use Rattle.code.specs.Code.{Bytes, encode}
 use Rattle.code.proofs.RoundTrip.{encode-decode}
 use Rattle.fields.specs.Fields.{GroupAt, Groups, done, more, readFile, termBytes, layoutOf}
@@ -20,13 +20,12 @@ use Rattle.examine.specs.Inspect.{Examined, examined, termAnswerOf, termAnswer}
 use Rattle.examine.specs.Inspect as term
 use Rattle.examine.specs.Claims.{WellFormed}
 use Rattle.examine.specs.declared.TermAnswer.{TermAnswer}
-use Rattle.examine.proofs.Laws.{refused-answer, examining-holds}
+use Rattle.examine.proofs.Laws.{examining-holds}
 use Rattle.verdict.specs.Verdict.{Progress, Run, passed, stopped, checkTerm}
 use Rattle.verdict.proofs.Promises.{passing}
 use Rattle.files.specs.File.{Opened, refused, opened, openTerm, openFields, openFile}
-use Rattle.files.specs.Check as files
 use Rattle.files.specs.Check.{groupsOf, leftOver, checkAnswerOf, checkOpenedBy, checkFileBy, checkFile}
-use Rattle.files.proofs.Answers.{Opens, opens, term-bytes, says as answer-says}
+use Rattle.files.proofs.Answers.{opens, term-bytes, says as answer-says}
 use Rattle.walk.specs.Contracts.{Answers, answer-passed, answer-stopped, Walkable, WalkAnswer}
 use Rattle.walk.specs.declared.Walked.{Walked}
 use Rattle.walk.proofs.Beginning.{halts-answer}
@@ -87,9 +86,6 @@ module _ (s : List ℕ) {e : ℕ} (b : Bytes s) where
 
     bytes : encode t ≡ termBytes s e
     bytes = encode-decode (termBytes s e) t (term-bytes s e b) (well-formed .decodes) .bytes
-
-    pub closed-term : Closed 0 t
-    closed-term = well-formed .closed
 
   pub ends-inside : Openable s e → e ≤ length s
   ends-inside o = omega (arith, room (fields (o .term) (o .groups) (o .opens) .groups))

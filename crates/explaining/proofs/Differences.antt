@@ -3,10 +3,10 @@
 use Prim.Native.Nat.{ℕ, zero, suc, _+_, _≤_, _<_}
 use mathlib.Core.Path.{_≡_, refl, ap, sym, _∙_}
 use mathlib.Core.Bool.{Bool, true, false}
-use mathlib.Core.List.{List, [], _∷_, _++_, append-nil}
+use mathlib.Core.List.{List, [], _∷_, _++_}
 use native.Mathlib.Omega.{arith}
 use lib.Dec.{eqb}
-use lib.ListN.{length, drop, getD}
+use lib.ListN.{length, getD}
 use borrow.Author.Tests.{eqb-true, eqb-false}
 use Rattle.calculus.specs.Terms.{Term, size}
 use Rattle.code.specs.Code.{encode, Coded}
@@ -67,8 +67,8 @@ differing {a} {b} p = record {
   in-right = p .in-right;
   differ = p .differ;
   agree = agree a b;
-  no-beginning = λ rest q. p .differ (sym (ap (λ (l : List ℕ). getD l (difference a b) 0) q ∙ same-start a rest (difference a b) (p .in-left)));
-  no-beginning-right = λ rest q. p .differ (ap (λ (l : List ℕ). getD l (difference a b) 0) q ∙ same-start b rest (difference a b) (p .in-right));
+  left-no-beginning = λ rest q. p .differ (sym (ap (λ (l : List ℕ). getD l (difference a b) 0) q ∙ same-start a rest (difference a b) (p .in-left)));
+  right-no-beginning = λ rest q. p .differ (ap (λ (l : List ℕ). getD l (difference a b) 0) q ∙ same-start b rest (difference a b) (p .in-right));
 }
 
 -- so two terms that differ

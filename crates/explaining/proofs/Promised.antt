@@ -1,11 +1,11 @@
 -- The promises of this crate.
 -- Assumes nothing.
-use Prim.Native.Nat.{ℕ, _+_, _≤_, _<_}
-use mathlib.Core.Path.{_≡_, refl, ap, sym, _∙_}
-use mathlib.Core.Bool.{Bool, true, false, cond}
+use Prim.Native.Nat.{ℕ, _≤_, _<_}
+use mathlib.Core.Path.{_≡_, refl, ap, _∙_}
+use mathlib.Core.Bool.{Bool, true, false}
 use mathlib.Core.Logic.{_⊎_, inl, inr}
 use mathlib.Core.Option.{some}
-use mathlib.Core.List.{List, [], _∷_, _++_}
+use mathlib.Core.List.{List, [], _∷_}
 use native.Mathlib.Nat.{zero-add}
 use native.Mathlib.Omega.{arith}
 use lib.Dec.{leb}
@@ -25,7 +25,6 @@ use Rattle.verdict.proofs.Promises.{never-not-reached}
 use Rattle.verdict.proofs.Grounds.{grounds}
 use Rattle.verdict.proofs.Closed.{Forms, stopped-forms}
 use Rattle.files.specs.File.{Opened, refused, opened, openFile}
-use Rattle.files.specs.Check as files
 use Rattle.files.specs.Check.{CheckAnswer, groupsOf, leftOver, checkAnswerOf, checkOpenedBy, checkFileBy, checkFile}
 use Rattle.files.proofs.Answers.{opens, closed, holds-just, before-numbers}
 use Rattle.explaining.specs.Explain.{Explanation, difference, handedBoth, told, explainGround, explainRun, explainOpened, explainFile}

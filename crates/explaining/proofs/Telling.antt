@@ -1,20 +1,18 @@
 -- What the parts of `explain` make of its answer.
 -- Assumes nothing.
-use Prim.Native.Nat.{ℕ, zero, suc, _+_, _≤_, _<_}
+use Prim.Native.Nat.{ℕ, _≤_, _<_}
 use mathlib.Core.Path.{_≡_, refl, ap, sym, _∙_}
 use mathlib.Core.Bool.{Bool, true, false, cond}
 use mathlib.Core.Logic.{_⊎_, inl, inr}
-use mathlib.Core.List.{List, [], _∷_, _++_}
+use mathlib.Core.List.{List, _++_}
 use native.Mathlib.Nat.{zero-add}
 use native.Mathlib.Omega.{arith}
 use lib.Dec.{leb}
 use lib.ListN.{length, drop}
-use lib.Seq.{sets}
 use borrow.Author.Tests.{le-leb, lt-leb}
-use Rattle.calculus.specs.Terms.{Term, size, Closed}
+use Rattle.calculus.specs.Terms.{Term}
 use Rattle.calculus.specs.Frames.{ε}
 use Rattle.calculus.specs.Types.{degree}
-use Rattle.code.specs.Limits.{longestTerm}
 use Rattle.code.specs.Code.{Bytes, encode}
 use Rattle.code.proofs.RoundTrip.{length-encode}
 use Rattle.parts.proofs.Stores.{drop-sets-start}
@@ -24,7 +22,7 @@ use Rattle.letters.specs.Contracts.{Writes}
 use Rattle.verdict.specs.Verdict.{Ground, bodies-differ, Progress, Run, stopped, checkTerm, placeOf}
 use Rattle.verdict.proofs.Grounds.{grounds}
 use Rattle.verdict.proofs.Closed.{stopped-forms}
-use Rattle.files.specs.File.{Opened, refused, opened, openFile}
+use Rattle.files.specs.File.{opened, openFile}
 use Rattle.files.specs.Check as files
 use Rattle.files.specs.Check.{groupsOf, checkAnswerOf, checkOpenedBy}
 use Rattle.compare.specs.Sides.{Buffers}
@@ -32,14 +30,15 @@ use Rattle.compare.specs.declared.Compared.{Compared}
 use Rattle.compare.specs.Compares.{GroundIs, is-untyped, is-no-group, is-refused, is-type-outgrown, is-domain-outgrown, is-step-outgrown, is-different}
 use Rattle.walk.specs.Contracts.{Halts, halts-waiting, halts-outgrown, halts-compared}
 use Rattle.walk.specs.declared.Walked.{Walked}
-use Rattle.checker.specs.Contracts.{OpenedAs, Openable, RunAs, run-passed, run-stopped, FileWalked}
+use Rattle.checker.specs.Contracts.{OpenedAs, RunAs, run-passed, run-stopped, FileWalked}
 use Rattle.checker.specs.declared.OpenAnswer.{OpenAnswer}
-use Rattle.checker.proofs.Checking.{refused-is, closed-term, answer-of}
-use Rattle.explaining.specs.Explain.{Explanation, difference, handedBoth, told, explainGround, explainRun, explainOpened, explainFile}
+use Rattle.files.proofs.Answers.{opens, closed}
+use Rattle.checker.proofs.Checking.{refused-is, answer-of}
+use Rattle.explaining.specs.Explain.{difference, handedBoth, told, explainGround, explainRun, explainOpened, explainFile}
 use Rattle.explaining.specs.Contracts.{explainedSays, TwoBodies, Delivers}
 use Rattle.explaining.specs.Claims.{Differing}
 use Rattle.explaining.specs.declared.Explained.{Explained}
-use Rattle.explaining.proofs.Differences.{Apart, differing, terms-apart, followed, apart-followed}
+use Rattle.explaining.proofs.Differences.{differing, terms-apart, followed, apart-followed}
 
 either : {A : Type 0} {x : A} (b : Bool) → x ≡ cond b x x
 either true = refl
@@ -155,7 +154,7 @@ module _ (s left right : List ℕ) {t : Term} {e : ℕ} {gs : List GroupAt} (o :
 
     apart : both .left-body ≡ both .right-body → ⊥
     apart =
-        let c = closed-term s b t gs o in
+        let c = closed s t e gs (opens s t e gs o) b in
         stopped-forms c (grounds .stopped-so t (groupsOf gs) (bodies-differ (w .place) (both .left-body) (both .right-body)) (both .progress) c (both .run-is)) .differ
 
     pub two-bodies : Buffers x y → TwoBodies x (w .first) y (w .second)

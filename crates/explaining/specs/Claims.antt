@@ -15,7 +15,7 @@ use Rattle.code.specs.Code.{Bytes, encode, decode}
 use Rattle.fields.specs.Files.{writeFile}
 use Rattle.verdict.specs.Verdict.{Side, Ground, something-waits, step-refused, bodies-differ, Progress, sideNumber, reasonNumber}
 use Rattle.verdict.specs.Claims.{Stopped}
-use Rattle.files.specs.Check.{CheckAnswer, checkFile}
+use Rattle.files.specs.Check.{checkFile}
 use Rattle.explaining.specs.Explain.{Explanation, difference, explainFile}
 
 -- The file holds a term and groups, and the one-pass rules reach this ground after so many comparisons.
@@ -34,8 +34,8 @@ pub record Differing (a b : List ℕ) : Type 0 where
   pub in-right : difference a b < length b
   pub differ : getD a (difference a b) 0 ≡ getD b (difference a b) 0 → ⊥
   pub agree : (i : ℕ) → i < difference a b → getD a i 0 ≡ getD b i 0
-  pub no-beginning : (rest : List ℕ) → b ≡ a ++ rest → ⊥
-  pub no-beginning-right : (rest : List ℕ) → a ≡ b ++ rest → ⊥
+  pub left-no-beginning : (rest : List ℕ) → b ≡ a ++ rest → ⊥
+  pub right-no-beginning : (rest : List ℕ) → a ≡ b ++ rest → ⊥
 
 -- 12: both bodies, as the file's steps carried them, stand at the starts of the buffers, and nothing else was written.
 pub record BodiesTold (s left right : List ℕ) (x : Explanation) : Type 0 where

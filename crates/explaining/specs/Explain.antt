@@ -28,24 +28,17 @@ difference [] s = 0
 difference (x ∷ r) [] = 0
 difference (x ∷ r) (y ∷ s) = let n = suc (difference r s) in cond (eqb x y) n 0
 
+-- The check's answer and three numbers; both buffers stay as they are.
+abbrev pub told : CheckAnswer → (left right : List ℕ) → (first second third : ℕ) → Explanation
+told a left right x y z = record { answer = a; first = x; second = y; third = z; left = left; right = right }
+
 -- 12: the bytes l and r of the two bodies for the lent buffers, which both stay as they are where either is shorter (14).
 unfoldable pub handedBoth : CheckAnswer → (left right l r : List ℕ) → Explanation
 unfolding difference
 handedBoth a left right l r =
     let both : Explanation = record { answer = a; first = length l; second = length r; third = difference l r; left = sets left 0 l; right = sets right 0 r } in
-    let neither : Explanation = record {
-      answer = record { number = bufferTooShort; place = 0; comparisons = a .comparisons; degree = a .degree };
-      first = 0;
-      second = 0;
-      third = 0;
-      left = left;
-      right = right;
-    } in
+    let neither : Explanation = told (record { number = bufferTooShort; place = 0; comparisons = a .comparisons; degree = a .degree }) left right 0 0 0 in
     cond (leb (length l) (length left)) (cond (leb (length r) (length right)) both neither) neither
-
--- The check's answer and three numbers; both buffers stay as they are.
-abbrev pub told : CheckAnswer → (left right : List ℕ) → (first second third : ℕ) → Explanation
-told a left right x y z = record { answer = a; first = x; second = y; third = z; left = left; right = right }
 
 -- By what stopped the check: for 8 how many wait, for 10 side, step and condition, for 12 the bodies as reached; else nothing more.
 unfoldable pub explainGround : CheckAnswer → (left right : List ℕ) → Ground → Explanation

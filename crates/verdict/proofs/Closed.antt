@@ -1,6 +1,6 @@
 -- The one-pass rules lead from closed questions to closed ones, so that two forms that differ have bytes of their own.
 -- Assumes nothing.
-use Prim.Native.Nat.{ℕ, suc, _+_, _≤_}
+use Prim.Native.Nat.{ℕ, _+_}
 use mathlib.Core.Path.{_≡_, refl}
 use mathlib.Core.Bool.{true}
 use mathlib.Core.Option.{Option, none, some}
@@ -8,8 +8,8 @@ use mathlib.Core.List.{List, [], _∷_, _++_}
 use native.Mathlib.Omega.{arith}
 use lib.Dec.{leb}
 use borrow.Author.Tests.{leb-true}
-use Rattle.calculus.specs.Terms.{Term, tau, var, app, abs, size, lift, Closed, closed-tau, closed-var, closed-app, closed-abs}
-use Rattle.calculus.specs.Frames.{Entry, domain, Frame, ε, _▹_, depth, entryAt, ClosedFrame, closed-empty, closed-entry, closed-single, closed-pair}
+use Rattle.calculus.specs.Terms.{Term, tau, var, app, abs, size, lift, Closed, closed-app, closed-abs}
+use Rattle.calculus.specs.Frames.{Entry, domain, Frame, depth, entryAt, ClosedFrame, closed-empty, closed-entry, closed-single, closed-pair}
 use Rattle.calculus.specs.Steps.{Step}
 use Rattle.calculus.specs.Rules.{Group, State, own, copied, compare, Question, holds, same, Next, asks, stops, typed, onePassNext}
 use Rattle.calculus.proofs.Closed.{Before, no-before, before, before-lift, closedness}
