@@ -179,7 +179,7 @@ module _ {next : State → Next} (is : (s : State) → Shared s → next s ≡ p
   unfolding lines
   in_parts {ks = ks} ε w = record { of_lines = []; of_rest = ks; each = no_line; rest = w; all = refl }
   in_parts {t} (R ▹ e) w =
-      let p = in_parts R w in
+      let p = in_parts {t = line e t} R w in
       let l = split e p.rest in
       record {
         of_lines = p.of_lines ++ l.0;

@@ -79,7 +79,7 @@ module _ {next : State → Next} where
   holds_forth l (met {R} {K} {U} s d) = let r = holds_forth l d in (met (same_forth l R K U s) r.0, ap (λ (l : List Group). s.group ∷ l) r.1)
   holds_forth l (by_rule c d) = let q = holds_forth l c in let r = holds_forth l d in (by_rule q.0 r.0, ap₂ ◌++◌ q.1 r.1)
 
-  holds_back : {n : Next} (x : Reach) → HoldsBy (full x) next n → HoldsBy (base x) next n
+  holds_back : (x : Reach) {n : Next} → HoldsBy (full x) next n → HoldsBy (base x) next n
   holds_back x nothing_left = nothing_left
   holds_back x (met {R} {K} {U} s d) = met (same_back x R K U s) (holds_back x d)
   holds_back x (by_rule c d) = by_rule (holds_back x c) (holds_back x d)

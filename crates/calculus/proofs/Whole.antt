@@ -113,7 +113,7 @@ module _ {x : Reach} {R : Frame} {M : List Term} where
   runs_in_app B runs_none = runs_none
   runs_in_app B (runs_more e a) = runs_more (app_in e) (runs_in_app B a)
 
-  runs_past_app : {ps : List ℕ} {B C : Term} (K : Term) → Runs x R (K ∷ M) ps B C → Runs x R M (map (past K) ps) (app K B) (app K C)
+  runs_past_app : (K : Term) {ps : List ℕ} {B C : Term} → Runs x R (K ∷ M) ps B C → Runs x R M (map (past K) ps) (app K B) (app K C)
   runs_past_app K runs_none = runs_none
   runs_past_app K (runs_more {p} e a) = runs_more (app_past p e) (runs_past_app K a)
 
@@ -121,7 +121,7 @@ module _ {x : Reach} {R : Frame} {M : List Term} where
   runs_in_abs B runs_none = runs_none
   runs_in_abs B (runs_more e a) = runs_more (abs_in e) (runs_in_abs B a)
 
-  runs_past_abs : {ps : List ℕ} {B C : Term} (U : Term) → Runs x (R ▹ entry_of M U) (unmatched x M) ps B C → Runs x R M (map (past U) ps) (abs U B) (abs U C)
+  runs_past_abs : (U : Term) {ps : List ℕ} {B C : Term} → Runs x (R ▹ entry_of M U) (unmatched x M) ps B C → Runs x R M (map (past U) ps) (abs U B) (abs U C)
   runs_past_abs U runs_none = runs_none
   runs_past_abs U (runs_more {p} e a) = runs_more (abs_past p e) (runs_past_abs U a)
 
@@ -190,7 +190,7 @@ unfolding partner_uses at_partner if_far uses_if_far remove fill unused entry_of
 partner_at R tau o = lost refl refl refl
 partner_at R (var k) o = lost refl refl refl
 partner_at {x = pairs} R (app L B) o = lost refl refl refl
-partner_at {x = couples} R (app L B) o = found_app L (partner_at R B (open_next o))
+partner_at {x = couples} {M = M} R (app L B) o = found_app L (partner_at {M = L ∷ M} R B (open_next o))
 partner_at R (abs U B) (open_first {x} {K} {M}) = found {v = substitute 0 K B}
     (runs_past_abs U (runs_uses x (R ▹ pair K U) (unmatched x (K ∷ M)) 0 K U B refl)) (rw (lower_lift 0 (substitute 0 K B)) refl) refl
 partner_at R (abs U B) (open_next {L = L} o) = found_abs L U (partner_at (R ▹ pair L U) B (open_lift o))

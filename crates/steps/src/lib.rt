@@ -22,7 +22,7 @@ use letters::{APPLICATOR, Letters, depth_of, height_of, symbol_of, wide};
 // ---- Couples.
 // The couple ⟨K⟩..[U]B at a place: the depths of its applicator and of its abstractor, and the places of what stands between, of its
 // abstractor, of B and of B's end. If there is none, why.
-#[derive(Drop)]
+#[derive(Clone, Copy)]
 struct Couple {
     reason: u32,
     outer: u32,
@@ -101,7 +101,7 @@ fn couple_at(s: &Letters, n: usize, p: usize) -> Couple
 
 // ---- The rest of a couple, without its abstractor.
 // How often its variable is used, and the depth of its deepest use, 0 if there is none.
-#[derive(Drop)]
+#[derive(Clone, Copy)]
 struct Uses {
     count: u32,
     deepest: u32,

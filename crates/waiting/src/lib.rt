@@ -11,7 +11,7 @@ use frames::Work;
 
 // A waiting applicator: its place in the term or, for a copy, in the text that it is a copy of; where its bytes stand in the work array;
 // the frame's depth when it was met; the lift that its K is seen through; and the scope of what waited before it.
-#[derive(Drop)]
+#[derive(Clone, Copy)]
 pub struct Slot {
     pub place: usize,
     pub at: usize,

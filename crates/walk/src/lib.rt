@@ -40,7 +40,7 @@ const COMPARE: u32 = 3;
 
 // What a walk answers: 0 or the number and the place of what stops it, the comparisons completed, where the next group is, and the
 // ground. For 8 this is how many wait; for 10 and 12 it is what `compare` says; else 0 0 0.
-#[derive(Drop)]
+#[derive(Clone, Copy)]
 pub struct Walked {
     pub number: u32,
     pub place: usize,
@@ -53,7 +53,7 @@ pub struct Walked {
 
 // A state (R, W, B) of the term's own text or (R, W, Y, B) of copied text, but for its frame R. The order of the fields was tried: by it
 // alone LLVM's code takes from 0.9 to 1.2 of the time for a book (docs/BENCHMARK.md).
-#[derive(Drop)]
+#[derive(Clone, Copy)]
 pub struct WalkState {
     // what stands inside B's first applicator or abstractor has been checked
     pub checked: bool,
@@ -84,7 +84,7 @@ pub struct WalkState {
 }
 
 // `entered` says that the frame has one more entry, whose bytes end at `end`.
-#[derive(Drop)]
+#[derive(Clone, Copy)]
 pub struct Turned {
     pub kind: u32,
     pub out: Walked,
