@@ -12,7 +12,7 @@ use letters::Letters;
 // The check's four numbers, and then: for 12 the lengths of the two bodies and the place of the first byte at which they differ; for 10
 // the side (0 left, 1 right), the step's number in its list from 0, and the condition (1 kind, 2 place, 3 byte, 4 no partner, 5 still
 // used); for 8 how many wait; else 0 0 0.
-#[derive(Drop)]
+#[derive(Clone, Copy)]
 pub struct Explained {
     pub number: u32,
     pub place: usize,
