@@ -1,0 +1,45 @@
+-- `bodies::put` meets its contract, by the laws of Putting.antt.
+-- Assumes nothing.
+use native.Mathlib.Omega.{arith}
+use borrow.Author.Tests.{not-true, not-false}
+use Rattle.bodies.proofs.Putting.{put_bounds, put_long, put_room, put_sourced, put_deep, put_done}
+use Rattle.bodies.proofs.put.Goals as goal
+
+pub overflow_sub-size : goal.overflow_sub-size
+overflow_sub-size c = omega (arith, put_bounds c.requires)
+
+pub overflow_sub-m : goal.overflow_sub-m
+overflow_sub-m c = omega (arith, put_bounds c.requires)
+
+pub overflow_add-m : goal.overflow_add-m
+overflow_add-m c = omega (arith, put_bounds c.requires)
+
+pub returns-then-m-gt-LONGEST_TERM : goal.returns-then-m-gt-LONGEST_TERM
+returns-then-m-gt-LONGEST_TERM c = put_long c.requires c.if-m-gt-LONGEST_TERM.true
+
+pub offset_bounds-s-p : goal.offset_bounds-s-p
+offset_bounds-s-p c = omega (arith, put_bounds c.requires)
+
+pub bounds-s-p : goal.bounds-s-p
+bounds-s-p c = omega (arith, put_bounds c.requires)
+
+pub overflow_sub-room-2 : goal.overflow_sub-room-2
+overflow_sub-room-2 c = omega (arith, put_room c.requires c.depth_of-d.ensures.0)
+
+pub overflow_add-p : goal.overflow_add-p
+overflow_add-p c = omega (arith, put_bounds c.requires)
+
+pub overflow_sub-size-2 : goal.overflow_sub-size-2
+overflow_sub-size-2 c = omega (arith, put_bounds c.requires)
+
+pub move_right-requires : goal.move_right-requires
+move_right-requires c = let b = put_bounds c.requires in (omega arith, omega (arith, c.if-m-gt-LONGEST_TERM.false), b.4)
+
+pub write_source-requires : goal.write_source-requires
+write_source-requires c = put_sourced c.requires c.depth_of-d.ensures.0 c.height_of.ensures.0 c.if-m-gt-LONGEST_TERM.false c.move_right.ensures
+
+pub returns-then-not-write_source : goal.returns-then-not-write_source
+returns-then-not-write_source c = put_deep c.requires c.depth_of-d.ensures.0 c.height_of.ensures.0 c.if-m-gt-LONGEST_TERM.false c.move_right.ensures c.write_source.ensures (not-true _ c.if-not-write_source.true)
+
+pub returns : goal.returns
+returns c = put_done c.requires c.depth_of-d.ensures.0 c.height_of.ensures.0 c.if-m-gt-LONGEST_TERM.false c.move_right.ensures c.write_source.ensures (not-false _ c.if-not-write_source.false)

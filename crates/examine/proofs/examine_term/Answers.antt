@@ -1,0 +1,22 @@
+-- `examine::examine_term` meets its contract.
+-- Assumes nothing.
+use mathlib.Core.Path.{sym, ap, ◌∙◌}
+use mathlib.Core.Option.{some}
+use Rattle.code.specs.Code.{end_of}
+use Rattle.examine.proofs.Laws.{examined_long, examined_endless, examined_past, answered}
+use native.Mathlib.Omega.{arith}
+use Rattle.examine.proofs.examine_term.Goals as goal
+
+pub returns-then-s-gt-LONGEST_TERM : goal.returns-then-s-gt-LONGEST_TERM
+returns-then-s-gt-LONGEST_TERM c = answered _ (examined_long _ c.if-s-gt-LONGEST_TERM.true) c.refusal.ensures
+
+pub returns-then-e-s : goal.returns-then-e-s
+returns-then-e-s c =
+    answered _ (examined_past _ c.if-s-gt-LONGEST_TERM.false (sym c.term_end-end.ensures ∙ ap end_of c.end-1.given.1) (λ q. omega arith)) c.refusal-then-e-s.ensures
+
+pub walk-requires : goal.walk-requires
+walk-requires c = (c.if-s-gt-LONGEST_TERM.false, sym c.term_end-end.ensures ∙ ap end_of c.end-1.given.1 ∙ ap some (omega arith))
+
+pub returns-in-Never : goal.returns-in-Never
+returns-in-Never c =
+    answered _ (examined_endless _ c.if-s-gt-LONGEST_TERM.false (sym c.term_end-end.ensures ∙ ap end_of c.enum_told-1.given.1)) c.refusal-in-Never.ensures

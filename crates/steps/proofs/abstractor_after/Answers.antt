@@ -1,0 +1,60 @@
+-- `steps::abstractor_after` meets its contract: the loop is `Passing` of Tails.antt.
+-- Assumes nothing.
+use Prim.Native.Nat.{◌-◌}
+use mathlib.Core.Logic.{inl, inr, ⊎_elim}
+use native.Mathlib.Omega.{arith}
+use Rattle.steps.proofs.Tails.{passing_start, passing_bounds, passed_all, passed_partner, pass_item}
+use Rattle.steps.proofs.abstractor_after.Goals as goal
+
+pub offset_bounds-s-q : goal.offset_bounds-s-q
+offset_bounds-s-q c = omega (arith, passing_bounds c.requires passing_start)
+
+pub bounds-s-q : goal.bounds-s-q
+bounds-s-q c = omega (arith, passing_bounds c.requires passing_start)
+
+pub loop-symbol-init : goal.loop-symbol-init
+loop-symbol-init c = (passing_start, c.symbol_of-symbol.ensures.0)
+
+pub overflow_add-unmatched : goal.overflow_add-unmatched
+overflow_add-unmatched c = omega (arith, passing_bounds c.requires c.loop-symbol.invariant.0)
+
+pub returns-then-unmatched-eq0 : goal.returns-then-unmatched-eq0
+returns-then-unmatched-eq0 c = let w = c.loop-symbol.invariant in passed_partner c.requires w.0 w.1 c.loop-symbol-test.true c.if-symbol-eq-APPLICATOR.false c.if-unmatched-eq0.true
+
+pub overflow_sub-unmatched : goal.overflow_sub-unmatched
+overflow_sub-unmatched c = omega (arith, c.if-unmatched-eq0.false)
+
+pub overflow_add-q : goal.overflow_add-q
+overflow_add-q c = omega (arith, passing_bounds c.requires c.loop-symbol.invariant.0)
+
+pub overflow_add-h : goal.overflow_add-h
+overflow_add-h c = omega (arith, passing_bounds c.requires c.loop-symbol.invariant.0)
+
+pub end_of-q-requires : goal.end_of-q-requires
+end_of-q-requires c = let b = passing_bounds c.requires c.loop-symbol.invariant.0 in (b.3, b.2, omega arith)
+
+pub offset_bounds-s-q-in-loop-symbol : goal.offset_bounds-s-q-in-loop-symbol
+offset_bounds-s-q-in-loop-symbol c = let w = c.loop-symbol.invariant in let g = c.requires in omega (
+  arith,
+  passing_bounds g w.0,
+  passing_bounds g (pass_item g w.0 w.1 c.loop-symbol-test.true
+      (⊎_elim (λ j. inl (j.0.taken, j.1)) (λ j. inr (j.0.left, j.1.left, j.2)) c.if-symbol-eq-APPLICATOR.branch) c.end_of-q.ensures),
+)
+
+pub bounds-s-q-in-loop-symbol : goal.bounds-s-q-in-loop-symbol
+bounds-s-q-in-loop-symbol c = let w = c.loop-symbol.invariant in let g = c.requires in omega (
+  arith,
+  passing_bounds g w.0,
+  passing_bounds g (pass_item g w.0 w.1 c.loop-symbol-test.true
+      (⊎_elim (λ j. inl (j.0.taken, j.1)) (λ j. inr (j.0.left, j.1.left, j.2)) c.if-symbol-eq-APPLICATOR.branch) c.end_of-q.ensures),
+)
+
+pub loop-symbol-smaller : goal.loop-symbol-smaller
+loop-symbol-smaller c = omega (arith, passing_bounds c.requires c.loop-symbol.invariant.0, c.end_of-q.ensures.after, c.end_of-q.ensures.inside)
+
+pub loop-symbol-preserved : goal.loop-symbol-preserved
+loop-symbol-preserved c = let w = c.loop-symbol.invariant in
+    (pass_item c.requires w.0 w.1 c.loop-symbol-test.true (⊎_elim (λ j. inl (j.0.taken, j.1)) (λ j. inr (j.0.left, j.1.left, j.2)) c.if-symbol-eq-APPLICATOR.branch) c.end_of-q.ensures, c.symbol_of-symbol-in-loop-symbol.ensures.0)
+
+pub returns : goal.returns
+returns c = let w = c.loop-symbol.invariant in passed_all c.requires w.0 w.1 (omega (arith, c.loop-symbol-test.false))

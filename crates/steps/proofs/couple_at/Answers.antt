@@ -1,0 +1,43 @@
+-- `steps::couple_at` meets its contract: each answer by its law of Couples.antt.
+-- Assumes nothing.
+use native.Mathlib.Omega.{arith}
+use mathlib.Core.Path.{sym, ◌∙◌}
+use Rattle.steps.proofs.Couples.{bounds, wrong, some_tail, alone, partner_inside, couple_found}
+use Rattle.steps.proofs.couple_at.Goals as goal
+
+pub offset_bounds-s-p : goal.offset_bounds-s-p
+offset_bounds-s-p c = omega (arith, bounds c.requires)
+
+pub bounds-s-p : goal.bounds-s-p
+bounds-s-p c = omega (arith, bounds c.requires)
+
+pub returns-then-symbol_of-ne-APPLICATOR : goal.returns-then-symbol_of-ne-APPLICATOR
+returns-then-symbol_of-ne-APPLICATOR c = wrong c.requires c.symbol_of.ensures.0 c.if-symbol_of-ne-APPLICATOR.true c.no_couple.ensures
+
+pub end_of-m-requires : goal.end_of-m-requires
+end_of-m-requires c = bounds c.requires
+
+pub abstractor_after-a-requires : goal.abstractor_after-a-requires
+abstractor_after-a-requires c = some_tail c.requires (sym c.symbol_of.ensures.0 ∙ c.if-symbol_of-ne-APPLICATOR.false) c.height_of-h.ensures.0 c.end_of-m.ensures
+
+pub returns-then-a-n : goal.returns-then-a-n
+returns-then-a-n c = alone c.requires (sym c.symbol_of.ensures.0 ∙ c.if-symbol_of-ne-APPLICATOR.false) c.height_of-h.ensures.0 c.end_of-m.ensures c.abstractor_after-a.ensures c.if-a-n.true c.no_couple-then-a-n.ensures
+
+pub overflow_add-a : goal.overflow_add-a
+overflow_add-a c = omega (arith, bounds c.requires, partner_inside c.requires (sym c.symbol_of.ensures.0 ∙ c.if-symbol_of-ne-APPLICATOR.false) c.height_of-h.ensures.0 c.end_of-m.ensures c.abstractor_after-a.ensures c.if-a-n.false)
+
+pub end_of-q-requires : goal.end_of-q-requires
+end_of-q-requires c = let b = bounds c.requires in (b.0, b.1, omega (arith, partner_inside c.requires (sym c.symbol_of.ensures.0 ∙ c.if-symbol_of-ne-APPLICATOR.false) c.height_of-h.ensures.0 c.end_of-m.ensures c.abstractor_after-a.ensures c.if-a-n.false))
+
+pub end_of-e-requires : goal.end_of-e-requires
+end_of-e-requires c = let b = bounds c.requires in (b.0, b.1, c.end_of-q.ensures.inside)
+
+pub offset_bounds-s-a : goal.offset_bounds-s-a
+offset_bounds-s-a c = omega (arith, bounds c.requires, partner_inside c.requires (sym c.symbol_of.ensures.0 ∙ c.if-symbol_of-ne-APPLICATOR.false) c.height_of-h.ensures.0 c.end_of-m.ensures c.abstractor_after-a.ensures c.if-a-n.false)
+
+pub bounds-s-a : goal.bounds-s-a
+bounds-s-a c = omega (arith, bounds c.requires, partner_inside c.requires (sym c.symbol_of.ensures.0 ∙ c.if-symbol_of-ne-APPLICATOR.false) c.height_of-h.ensures.0 c.end_of-m.ensures c.abstractor_after-a.ensures c.if-a-n.false)
+
+pub returns : goal.returns
+returns c = couple_found c.requires (sym c.symbol_of.ensures.0 ∙ c.if-symbol_of-ne-APPLICATOR.false) c.height_of-h.ensures.0 c.end_of-m.ensures c.abstractor_after-a.ensures c.if-a-n.false c.end_of-q.ensures c.end_of-e.ensures
+    (c.narrow.ensures ∙ c.depth_of.ensures.0) (c.narrow-2.ensures ∙ c.depth_of-2.ensures.0)

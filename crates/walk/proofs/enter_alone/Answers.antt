@@ -1,0 +1,17 @@
+-- `walk::enter_alone` meets its contract.
+-- Assumes nothing.
+use Rattle.walk.proofs.Entering.{abs_bounds, alone_asked, alone_wagons}
+use native.Mathlib.Omega.{arith}
+use Rattle.walk.proofs.enter_alone.Goals as goal
+
+pub enter_domain-b-requires : goal.enter_domain-b-requires
+enter_domain-b-requires c = let b = abs_bounds c.requires.2.3 in (b.4, b.6, b.3, b.1, b.0, alone_asked c.requires.2.3 c.requires.0 c.requires.1)
+
+pub overflow_add-s : goal.overflow_add-s
+overflow_add-s c = omega (arith, abs_bounds c.requires.2.3)
+
+pub past-z-requires : goal.past-z-requires
+past-z-requires c = let b = abs_bounds c.requires.2.3 in (b.0, b.1, b.2)
+
+pub returns : goal.returns
+returns c = λ file list starts a b g. rw (c.onward.ensures, c.past-z.ensures, c.stretch.ensures, c.enter_domain-b.ensures.1, c.enter_domain-b.ensures.2) (alone_wagons g a b c.requires.0 c.enter_domain-b.ensures.0)
