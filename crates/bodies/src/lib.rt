@@ -1,4 +1,6 @@
 // A body held as letters, after a frame: its type, and a local step on it (document 01, 'Terms' and 'Steps').
+#![tactic(auto)]
+
 ghost use Rattle.std.specs.Prelude.{◌≡◌, ◌+◌, ◌-◌, ◌≤◌, ◌<◌, max, length};
 ghost use Rattle.code.specs.Limits.{longest_term};
 ghost use Rattle.frames.specs.Stored.{record_of};

@@ -1,4 +1,6 @@
 // The public calls of document 01 on the caller's own bytes. None has a `requires`, and none relies on an earlier one.
+#![tactic(auto)]
+
 ghost use Rattle.std.specs.Prelude.{◌≡◌, length};
 ghost use Rattle.calculus.specs.Terms.{Term};
 ghost use Rattle.code.specs.Limits.{longest_term};

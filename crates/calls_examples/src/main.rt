@@ -1,5 +1,7 @@
 // The calls from Rattle, a line for each: its name, its answer, and the part that it hands back or the buffer as it is left, which was
 // filled with aa; of a page the text. differential/src/named.rs has the examples and the edges.
+#![tactic(auto)]
+
 fn number(n: usize) {
     io::write_all(1, b" ");
     io::print_decimal(1, n as u64);

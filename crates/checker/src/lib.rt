@@ -1,4 +1,6 @@
 // Check a file: the fifth call; and its two parts, which the explaining call has too.
+#![tactic(auto)]
+
 ghost use Rattle.compare.specs.Sides.{Buffers};
 ghost use Rattle.files.specs.File.{open_file};
 ghost use Rattle.checker.specs.Answer.{Checked};

@@ -1,5 +1,7 @@
 // The byte code of terms: what each byte does to the balance, and where a term ends.
 // The empty functions at the end carry the promises of specs/Claims.antt.
+#![tactic(auto)]
+
 pub mod numbers;
 
 ghost use Rattle.std.specs.Prelude.{◌≡◌, ◌≤◌, length};

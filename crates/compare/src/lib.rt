@@ -1,5 +1,7 @@
 // One comparison of the check of a file, `same(R,K,U)`, with the next group of the file: the type of K and U, each held as letters
 // in an array of its own, replayed by its steps, and compared.
+#![tactic(auto)]
+
 ghost use Rattle.fields.specs.Fields.{StepRange};
 ghost use Rattle.frames.specs.Stored.{record_of};
 ghost use Rattle.bodies.specs.Held.{SomeHeld};

@@ -1,6 +1,8 @@
 // How many byte strings of a length the examining call accepts, refuses with 3 and refuses with 5. The counts are those of the one-byte
 // code (crates/examine/specs/OneByte.antt), and come from a recurrence over the ways to split a string.
 // The empty functions at the end carry the promises of specs/Claims.antt and the examples.
+#![tactic(auto)]
+
 ghost use Rattle.std.specs.Prelude.{◌≡◌, ◌+◌, ◌^◌, ◌≤◌};
 ghost use Rattle.counting.specs.Counts.{longest_counted, count_answer};
 ghost use Rattle.counting.specs.Clauses.{greatest_index, terminals_in, terms_in};

@@ -1,4 +1,6 @@
 // The program as Rattle builds it. Rattle's main has no exit status: program/main.c hands it over.
+#![tactic(auto)]
+
 fn main() {
     let _status = program::counts_run();
 }

@@ -1,5 +1,7 @@
 // Examining a bare term: conditions 3 to 6 of document 01, and the degree.
 // The empty functions at the end carry the promises of specs/Claims.antt.
+#![tactic(auto)]
+
 ghost use Rattle.std.specs.Prelude.{◌≡◌, ℕ, ◌+◌, ◌≤◌, ◌<◌, length, get_or};
 ghost use Rattle.std.proofs.Math.Option.{some};
 ghost use Rattle.code.specs.Limits.{longest_term, most_abstractors};

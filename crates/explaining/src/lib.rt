@@ -1,5 +1,7 @@
 // The true ground of a refusal (document 02, request (g)): a check, and what stopped it.
 // The empty function at the end carries the promises of specs/Claims.antt.
+#![tactic(auto)]
+
 ghost use Rattle.std.specs.Prelude.{◌≡◌};
 ghost use Rattle.explaining.specs.Explain.{difference, explain_file};
 ghost use Rattle.explaining.specs.Clauses.{explained_says, TwoBodies, Delivers};

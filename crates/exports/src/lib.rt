@@ -1,5 +1,7 @@
 // The calls for programs in C and Rust. A slice is a pointer and a length; an answer is written to an array of numbers that
 // the caller lends.
+#![tactic(auto)]
+
 ghost use Rattle.std.specs.Prelude.{◌≡◌};
 ghost use Rattle.examine.specs.Inspect.{term_answer};
 ghost use Rattle.files.specs.File.{file_answer};

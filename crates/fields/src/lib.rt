@@ -1,4 +1,6 @@
 // The fields of a file: what document 01 tests of a file before its term, and the parts of an accepted file.
+#![tactic(auto)]
+
 ghost use Rattle.std.specs.Prelude.{◌≡◌, ◌+◌, ◌≤◌, ◌<◌, length};
 ghost use Rattle.fields.specs.Fields.{word, field_at, group_end, groups_from, with_groups, read_file, refused, layout_of, read_step, body_end, body_at, term_bytes, GroupHere, GroupParts};
 ghost use Rattle.fields.specs.Claims.{Reading, Writing};

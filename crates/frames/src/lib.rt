@@ -1,5 +1,7 @@
 // The frame record: the place of each entry's bytes in a work array, how many there are, and where they end.
 // The empty function at the end carries the promises of specs/Claims.antt.
+#![tactic(auto)]
+
 ghost use Rattle.std.specs.Prelude.{◌≡◌, ◌≤◌};
 ghost use Rattle.frames.specs.Stored.{Holding, EmptyRecord, SomeTermFrom, EndAt, EntryAt, Parted, Looked, record_of};
 ghost use Rattle.frames.specs.Claims.{FrameLaws};

@@ -1,5 +1,7 @@
 // One byte of a pass over a term, which reads its bytes once, forward, with a stack of scopes in place of recursion; and the larger of two
 // numbers.
+#![tactic(auto)]
+
 ghost use Rattle.std.specs.Prelude.{◌≡◌, ◌<◌, max};
 ghost use Rattle.indices.specs.Stack.{body_scope, StackReady, Advanced};
 

@@ -1,5 +1,7 @@
 // Letters: the symbols of a body at a fixed width, so that a step's place is an array index and a lift changes no length. Only this
 // crate reads and writes a body's bytes.
+#![tactic(auto)]
+
 ghost use Rattle.std.specs.Prelude.{◌≡◌, true, ◌↔◌, ◌+◌, ◌%◌, ◌<◌, ◌≤◌, max, length};
 ghost use Rattle.calculus.specs.Terms.{lift_index};
 ghost use Rattle.code.specs.Limits.{longest_term, most_abstractors};

@@ -1,4 +1,6 @@
 // A part of a byte buffer, copied to another.
+#![tactic(auto)]
+
 ghost use Rattle.std.specs.Prelude.{◌+◌, ◌-◌, ◌≤◌, length};
 ghost use Rattle.parts.specs.Parts.{Copied};
 

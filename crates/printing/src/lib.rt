@@ -1,6 +1,8 @@
 // A term on a printed page, 72 columns wide. A symbol is a byte until request (j), which changes `cell_of` and the walk over symbols in
 // `write_page` and `print_term`.
 // The empty functions at the end carry the promises of specs/Claims.antt and the examples.
+#![tactic(auto)]
+
 ghost use Rattle.std.specs.Prelude.{◌≡◌, ◌+◌, ◌*◌, ◌%◌, ◌≤◌, ◌<◌, [], length, set};
 ghost use Rattle.std.proofs.lemmas.List.Edits.{sets};
 ghost use Rattle.code.specs.Limits.{longest_term};

@@ -1,6 +1,8 @@
 // The programs. `bijterne`, `explain`, `page` and `shelf` read standard input and answer for the whole of it or not at all; `counts` reads
 // nothing. If the input could not be read or the answer not written, a line on standard error says why, and the exit status is 2. Reading
 // stops with the buffer full: an input of over 65,535 bytes is refused for that, however it goes on.
+#![tactic(auto)]
+
 mod explanation;
 
 ghost use Rattle.std.specs.Prelude.{◌≡◌, ◌+◌, ◌≤◌, length};

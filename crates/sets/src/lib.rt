@@ -1,4 +1,6 @@
 // Check a set of files: all are accepted, or the first that is refused is named.
+#![tactic(auto)]
+
 ghost use Rattle.std.specs.Prelude.{◌≡◌, length};
 ghost use Rattle.sets.specs.Sets.{files_from, read_set, check_from};
 ghost use Rattle.sets.specs.Clauses.{heads_of, WholeFrom};

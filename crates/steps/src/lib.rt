@@ -1,4 +1,6 @@
 // Steps on a body held as letters, after a frame (document 01, 'Steps'; requests (a) and (d)).
+#![tactic(auto)]
+
 ghost use Rattle.std.specs.Prelude.{◌≡◌, List, ◌++◌, ℕ, ◌+◌, ◌-◌, ◌≤◌, ◌<◌, max, length};
 ghost use Rattle.code.specs.Limits.{longest_term};
 ghost use Rattle.frames.specs.declared.FrameRecord.{FrameRecord as Record};

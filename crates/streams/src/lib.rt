@@ -1,4 +1,6 @@
 // Standard input, output and error for the programs: the whole input or a failure, and a text put together for one write.
+#![tactic(auto)]
+
 ghost use Rattle.std.specs.Prelude.{◌≡◌, ◌+◌, ◌≤◌, length};
 ghost use Rattle.io.specs.Counts.{IsPrefixLen};
 ghost use Rattle.streams.specs.Clauses.{number_room, Added};

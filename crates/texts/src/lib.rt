@@ -1,4 +1,6 @@
 // What is known of each place of a term's own text. Its bytes are read from the left only, into letters.
+#![tactic(auto)]
+
 ghost use Rattle.std.specs.Prelude.{◌≡◌, ◌<◌, ◌≤◌, length};
 ghost use Rattle.code.specs.Limits.{longest_term};
 ghost use Rattle.texts.specs.Texts.{Sized, Depths, WholeTerm};

@@ -1,5 +1,7 @@
 // The bounded check of a term with supplied groups, as a definition on trees, and what it promises. No code: the check of a
 // file is proved equal to it. Each function's contract is a promise of specs/Claims.antt or specs/Examples.antt.
+#![tactic(auto)]
+
 ghost use Rattle.verdict.specs.Claims.{Passing, Stopping, Running, Turning, FormerRuns, LaterRuns, Grounds, OnlyLimits};
 ghost use Rattle.verdict.specs.Examples.{Examples};
 

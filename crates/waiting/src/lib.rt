@@ -1,4 +1,6 @@
 // The waiting applicators: six numbers for each in one lent array, and writing a term where a frame ends.
+#![tactic(auto)]
+
 ghost use Rattle.std.specs.Prelude.{◌≡◌, false, cond, ◌⊎◌, ◌+◌, ◌-◌, ◌*◌, ◌≤◌, ◌<◌, length, get_or};
 ghost use Rattle.calculus.specs.Terms.{lift, lift_index};
 ghost use Rattle.code.specs.Limits.{longest_state};

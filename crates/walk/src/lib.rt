@@ -1,6 +1,8 @@
 // The walk of the check of a file: the one-pass rules (001, section 5.8) on the bytes of the term and of its copies. The frame's bytes
 // stand in a work array; one state is a struct of numbers, and one function takes it to the next. `rule_of` tells the rules apart, in the
 // paper's order and by the paper's numbers; what they do stands after it in the same order (docs/RULES.md).
+#![tactic(auto)]
+
 ghost use Rattle.std.specs.Prelude.{◌≡◌, true, false, cond, List, ℕ, ◌+◌, ◌-◌, ◌*◌, ◌≤◌, ◌<◌, max, length, get_or, set};
 ghost use Rattle.calculus.specs.Terms.{lift_index};
 ghost use Rattle.code.specs.Limits.{longest_term, longest_state, most_abstractors};
