@@ -11,7 +11,7 @@ use Rattle.calculus.specs.Rules.{State, own, copied, compare, Question, holds, s
 use Rattle.calculus.specs.Walks.{copied_states, own_states, states_of}
 use Rattle.calculus.proofs.Demand.{counts, fewer}
 use Rattle.verdict.specs.Bounds.{state_fits}
-use Rattle.verdict.specs.Verdict.{Item, state_at, same_at, placed, Ground, state_outgrown, ground_of, Progress, turned, Run, passed, stopped, on_state, done, to_turn, replaced, turn_by, turn}
+use Rattle.verdict.specs.Verdict.{Item, state_at, same_at, placed, Ground, state_outgrown, ground_of, Progress, turned, Run, passed, stopped, on_state, done, to_turn, replaced, turn_by}
 use Rattle.verdict.specs.Verdict.{states, steps, finish_by, finish}
 use Rattle.verdict.specs.Claims.{StateFits}
 use Rattle.verdict.proofs.Turns.{Leads, here, turn_to, leads_then, run_leads, Meets, Refuses, Compared, meets, refuses, comparing}

@@ -113,7 +113,7 @@ unfolding after_turns
 leads_before zero here h e = omega arith
 leads_before (suc n) here h e = omega arith
 leads_before zero (by_turn d) h e = let z : ◌≡◌ {A = ℕ} 0 1 = cc in omega arith
-leads_before (suc n) (by_turn d) h e = leads_before n d (omega arith) e
+leads_before (suc n) (by_turn {k = k} d) h e = leads_before {k = k} n d (omega arith) e
 
 whole : (t : Term) (gs : List Group) → (k : ℕ) × Leads k (start t gs) (done (check_term t gs)) × ((progress_of (check_term t gs)).turns ≡ k) × (k ≤ own_states [] t + steps gs)
 unfolding start check_term_by states states_of frame_states

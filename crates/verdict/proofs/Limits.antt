@@ -60,7 +60,7 @@ nothing_stops nothing_left e = asks_stops e
 nothing_stops (met s d) e = asks_stops e
 nothing_stops (by_rule c d) e = asks_stops e
 
-side_limit : {place n : ℕ} {side : Side} {R : Frame} {ss : List Step} {t f : Term} {x : Ground} → SideStops place side R n ss t x → replay R ss t ≡ reached f → number x ≡ 11
+side_limit : {place : ℕ} {side : Side} {R : Frame} {n : ℕ} {ss : List Step} {t f : Term} {x : Ground} → SideStops place side R n ss t x → replay R ss t ≡ reached f → number x ≡ 11
 unfolding replay_by then_outcome number
 side_limit {R = R} (stops_refused {ss = ss} e) h = refused_reached (sym (ap (λ (o : Outcome). then_outcome o (replay R ss)) e) ∙ h)
 side_limit (stops_outgrown e b) h = refl

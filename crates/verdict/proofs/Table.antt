@@ -5,12 +5,12 @@ use mathlib.Core.List.{map}
 use Rattle.calculus.specs.Terms.{size, lift, lift_index}
 use Rattle.calculus.specs.Frames.{domain, depth, entry_at}
 use Rattle.calculus.specs.Types.{nth, type, type_of_var}
-use Rattle.calculus.specs.Steps.{step_by, step, step_of, step_at, step_here, kind_in, reduce_var, map_outcome, entry_of}
+use Rattle.calculus.specs.Steps.{step_by, step_of, step_at, step_here, kind_in, reduce_var, map_outcome, entry_of}
 use Rattle.calculus.specs.Rules.{lift_all, typed, one_pass_next}
 use Rattle.calculus.specs.Walks.{copied_states, own_states, frame_states, states_of}
 use Rattle.code.specs.Scope.{scope}
 use Rattle.verdict.specs.Bounds.{state_fits, body_fits, state_size, state_scope, frame_size, frame_scope, waiting_size, waiting_scope}
-use Rattle.verdict.specs.Verdict.{check_term_by, check_term, finish_by, finish, run_by, run, onward, turn_by, turn, stepped, replaced, to_turn, with_type, with_group, side_from, side_of, forms_meet, placed, last, ground_of, turned, completed, identical, states, steps}
+use Rattle.verdict.specs.Verdict.{check_term_by, check_term, finish_by, run_by, onward, turn_by, stepped, replaced, to_turn, with_type, with_group, side_from, side_of, forms_meet, placed, last, ground_of, turned, completed, identical, states, steps}
 use Rattle.verdict.specs.Claims.{progress_of}
 use Rattle.verdict.specs.Examples.{table, Examples}
 

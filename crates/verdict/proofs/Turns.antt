@@ -11,11 +11,11 @@ use lib.ListN.{length, drop}
 use Rattle.calculus.specs.Terms.{Term}
 use Rattle.calculus.specs.Frames.{Frame}
 use Rattle.calculus.specs.Types.{type}
-use Rattle.calculus.specs.Steps.{Step, Reason, Outcome, reached, refused, then_outcome, step, replay_by, replay}
+use Rattle.calculus.specs.Steps.{Step, Outcome, reached, refused, then_outcome, step, replay_by, replay}
 use Rattle.calculus.specs.Rules.{Group, Same, compare, Question, same}
 use Rattle.calculus.proofs.Weaken.{reached_inj}
 use Rattle.verdict.specs.Bounds.{body_fits}
-use Rattle.verdict.specs.Verdict.{Item, same_at, Side, Ground, untyped, something_waits, no_group, step_refused, state_outgrown, type_outgrown, domain_outgrown, step_outgrown, different_bodies, number}
+use Rattle.verdict.specs.Verdict.{Item, same_at, Ground, untyped, no_group, step_refused, type_outgrown, domain_outgrown, step_outgrown, different_bodies, number}
 use Rattle.verdict.specs.Verdict.{Progress, turned, completed, Run, stopped, OtherSide, right_next, left_reached, side_of, Configuration, on_step, Status, at_turn, done, identical, forms_meet, side_from, with_group, with_type, to_turn, stepped, turn_by, turn, onward, run_by, run, steps}
 use Rattle.verdict.specs.Claims.{FormsFit, no_form, next_form, SameFits, SideStops, stops_refused, stops_outgrown, stops_later, StopsAt, type_is_none, group_missing, outgrown_type, outgrown_domain, left_stops, right_stops, forms_differ}
 use Rattle.verdict.proofs.Runs.{identical_eq, identical_refl, not_identical}
