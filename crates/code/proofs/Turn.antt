@@ -47,37 +47,45 @@ balance_le symbol_var n = omega arith
 balance_le symbol_app n = omega arith
 balance_le symbol_abs n = omega arith
 
--- ---- The loop. At place i the balance is n and the term, which starts at `from`, has not ended.
-pub record Running (s : List ℕ) (from n i : ℕ) : Type 0 where
-  pub positive : 1 ≤ n
-  pub small : n ≤ i + 1
-  pub rest : first_zero (drop i s) n i ≡ term_end s from
+-- ---- The loop. At place i the balance is b, a number n, and the term, which starts at `from`, has not ended.
+pub record Running (s : List ℕ) (from : ℕ) (b : ℤ) (i : ℕ) : Type 0 where
+  pub number : ℕ
+  pub is : b ≡ pos number
+  pub positive : 1 ≤ number
+  pub small : number ≤ i + 1
+  pub rest : first_zero (drop i s) number i ≡ term_end s from
 
-pub starts : (s : List ℕ) (from : ℕ) → Running s from 1 from
+pub starts : (s : List ℕ) (from : ℕ) → Running s from (pos 1) from
 unfolding term_end
-starts s from = record { positive = omega arith; small = omega arith; rest = refl }
+starts s from = record { number = 1; is = refl; positive = omega arith; small = omega arith; rest = refl }
 
-pub past_end : {s : List ℕ} {from n i : ℕ} → Running s from n i → length s ≤ i → none ≡ term_end s from
+pub past_end : {s : List ℕ} {from i : ℕ} {b : ℤ} → Running s from b i → length s ≤ i → none ≡ term_end s from
 unfolding first_zero
-past_end {s} {n = n} v h = rw (drop_of_length-le s h, ne_eqb n 0 (λ z. omega arith)) at v.rest
+past_end {s} v h = rw (drop_of_length-le s h, ne_eqb v.number 0 (λ z. omega arith)) at v.rest
 
 -- A turn, in which `delta_of` answers r; the code's sum is the next balance.
-module _ {s : List ℕ} {from n i : ℕ} {r : ℤ} (v : Running s from n i) (h : i < length s) (l : length s ≤ longest_file) (e : r ≡ delta (get_or s i 0)) where
-  sum : to_z w32 n +ℤ to_z w32 (of_z w32 r) ≡ pos (balance_after (symbol (get_or s i 0)) n)
-  sum = rw (e, delta_kept (get_or s i 0), to_z_pos w32 n (omega arith), by_delta n (get_or s i 0) v.positive)
+module _ {s : List ℕ} {from i : ℕ} {b r : ℤ} (v : Running s from b i) (h : i < length s) (l : length s ≤ longest_file) (e : r ≡ delta (get_or s i 0)) where
+  sum : b +ℤ to_z w32 (of_z w32 r) ≡ pos (balance_after (symbol (get_or s i 0)) v.number)
+  sum = rw (e, delta_kept (get_or s i 0), v.is, by_delta v.number (get_or s i 0) v.positive)
 
-  pub sum_fits : SFits w32 (to_z w32 n +ℤ to_z w32 (of_z w32 r))
-  sum_fits = rw sum (record { sfits = omega (arith, balance_le (symbol (get_or s i 0)) n) })
+  few : balance_after (symbol (get_or s i 0)) v.number ≤ i + 2
+  few = omega (arith, balance_le (symbol (get_or s i 0)) v.number, v.small)
 
-  bits : of_z w32 (to_z w32 n +ℤ to_z w32 (of_z w32 r)) ≡ balance_after (symbol (get_or s i 0)) n
+  pub sum_fits : SFits w32 (b +ℤ to_z w32 (of_z w32 r))
+  sum_fits = rw sum (record { sfits = omega (arith, few) })
+
+  bits : of_z w32 (b +ℤ to_z w32 (of_z w32 r)) ≡ balance_after (symbol (get_or s i 0)) v.number
   bits = ap (of_z w32) sum
 
-  next : first_zero (drop (i + 1) s) (balance_after (symbol (get_or s i 0)) n) (i + 1) ≡ term_end s from
+  next : first_zero (drop (i + 1) s) (balance_after (symbol (get_or s i 0)) v.number) (i + 1) ≡ term_end s from
   unfolding first_zero
-  next = rw add-one (sym (rw (drop-cons s i 0 h) (simp (ne_eqb n 0 (λ z. omega arith)))) ∙ v.rest)
+  next = rw add-one (sym (rw (drop-cons s i 0 h) (simp (ne_eqb v.number 0 (λ z. omega (arith, v.positive))))) ∙ v.rest)
 
-  pub goes_on : (of_z w32 (to_z w32 n +ℤ to_z w32 (of_z w32 r)) ≡ 0 → ⊥) → Running s from (of_z w32 (to_z w32 n +ℤ to_z w32 (of_z w32 r))) (i + 1)
-  goes_on z = record { positive = omega arith; small = omega (arith, bits, balance_le (symbol (get_or s i 0)) n); rest = rw bits next }
+  kept : to_z w32 (of_z w32 (b +ℤ to_z w32 (of_z w32 r))) ≡ pos (balance_after (symbol (get_or s i 0)) v.number)
+  kept = rw bits (to_z_pos w32 _ (omega (arith, few)))
 
-  pub stops : of_z w32 (to_z w32 n +ℤ to_z w32 (of_z w32 r)) ≡ 0 → some (i + 1) ≡ term_end s from
+  pub goes_on : (of_z w32 (b +ℤ to_z w32 (of_z w32 r)) ≡ 0 → ⊥) → Running s from (to_z w32 (of_z w32 (b +ℤ to_z w32 (of_z w32 r)))) (i + 1)
+  goes_on z = record { number = balance_after (symbol (get_or s i 0)) v.number; is = kept; positive = omega (arith, bits); small = omega (arith, few); rest = next }
+
+  pub stops : of_z w32 (b +ℤ to_z w32 (of_z w32 r)) ≡ 0 → some (i + 1) ≡ term_end s from
   stops z = sym (first_zero_zero (drop (i + 1) s) (i + 1)) ∙ rw (sym bits ∙ z) at next
