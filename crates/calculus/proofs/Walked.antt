@@ -3,7 +3,7 @@
 use Prim.Native.Nat.{ℕ, zero, suc}
 use mathlib.Core.Path.{◌≡◌, refl}
 use mathlib.Core.List.{List, [], ◌∷◌, ◌++◌}
-use Rattle.calculus.specs.Terms.{Term, tau, var, lift, lift_index}
+use Rattle.calculus.specs.Terms.{tau, var, lift, lift_index}
 use Rattle.calculus.specs.Frames.{domain, pair, ε, ◌▹◌, entry_at}
 use Rattle.calculus.specs.Rules.{lift_all, State, own, Comparison, compare, Question, holds, same, Next, asks, stops, typed, plain_next, one_pass_next}
 use Rattle.calculus.specs.Walks.{End, finished, stopped, Walk, walk_end, walk_same, walk_asks, walk_stops, WalkFrom}

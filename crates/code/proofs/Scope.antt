@@ -1,7 +1,7 @@
 -- Laws of how many abstractors are in scope.
 -- Assumes nothing.
-use Prim.Native.Nat.{ℕ, suc, ◌+◌, ◌≤◌, max}
-use mathlib.Core.Path.{◌≡◌, refl, ap₂}
+use Prim.Native.Nat.{ℕ, suc, ◌+◌, ◌≤◌}
+use mathlib.Core.Path.{◌≡◌, refl}
 use native.Mathlib.Omega.{arith}
 use Rattle.calculus.specs.Terms.{Term, tau, var, app, abs, Closed, closed_tau, closed_var, closed_app, closed_abs, lift}
 use Rattle.code.specs.Limits.{most_abstractors}

@@ -1,6 +1,5 @@
 -- `code::term_end_by` meets its contract: the loop's invariant and its turns are those of Turn.antt.
 -- Assumes nothing.
-use Prim.Native.Nat.{◌-◌}
 use Rattle.code.proofs.Turn.{starts, past_end, sum_fits, goes_on, stops}
 use Rattle.code.proofs.term_end_by.Goals as goal
 
