@@ -101,20 +101,26 @@ record Led (s out : List ℕ) (leads : Term → Term → Type 0) (place n : ℕ)
   length_is : n ≡ length (encode result)
   buffer : out' ≡ sets out 0 (encode result)
 
+result_stays : {out out' : List ℕ} {place n number : ℕ} {u : Term} {x : Written} → WrittenAs out u x → x ≡ answer number place n out' → (number ≡ 0 → ⊥) → (n ≡ 0) × (out' ≡ out)
+result_stays (done f r) e z = absurd (z (cc))
+result_stays (kept m p) e z = (cc, cc)
+
 module _ {s out out' : List ℕ} {leads : Term → Term → Type 0} {place n : ℕ} where
+  result_led : {t u : Term} {x : Written} → examined s ≡ accepted t → leads t u → WrittenAs out u x → x ≡ answer 0 place n out' → Led s out leads place n out'
+  result_led {t} {u} h l (done f r) e = record { term = t; result = u; accepted_is = h; leading = l; fits = f; room = r; place_is = cc; length_is = cc; buffer = cc }
+  result_led h l (kept m p) e = let w : m ≡ 0 = cc in absurd (omega arith)
+
   led : {x : Written} → Ways s out leads x → x ≡ answer 0 place n out' → Led s out leads place n out'
   led (at_refusal h) e = absurd (refusal_number s h (cc))
   led at_none e = let w : ◌≡◌ {A = ℕ} 0 1 = cc in absurd (omega arith)
   led at_unmet e = let w : ◌≡◌ {A = ℕ} 10 0 = cc in absurd (omega arith)
-  led (at_result {t} {u} h l (done f r)) e = record { term = t; result = u; accepted_is = h; leading = l; fits = f; room = r; place_is = cc; length_is = cc; buffer = cc }
-  led (at_result h l (kept m p)) e = let w : m ≡ 0 = cc in absurd (omega arith)
+  led (at_result h l r) e = result_led h l r e
 
   stays : {x : Written} {number : ℕ} → Ways s out leads x → x ≡ answer number place n out' → (number ≡ 0 → ⊥) → (n ≡ 0) × (out' ≡ out)
   stays (at_refusal h) e z = (cc, cc)
   stays at_none e z = let w : ◌≡◌ {A = ℕ} 0 1 = cc in absurd (omega arith)
   stays at_unmet e z = (cc, cc)
-  stays (at_result h l (done f r)) e z = absurd (z (cc))
-  stays (at_result h l (kept m p)) e z = (cc, cc)
+  stays (at_result h l r) e z = result_stays r e z
 
 -- What was written is closed, and within the limits.
 fits_within : (t : Term) → body_fits ε t ≡ true → Fits 0 t

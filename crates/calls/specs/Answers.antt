@@ -1,6 +1,6 @@
 -- The answers of the calls 'write a term's type' and 'apply one step' (document 01), with what each leaves in the lent buffer.
 -- Assumes nothing.
-use Rattle.std.specs.Prelude.{ℕ, ◌≤◌, cond, ◌≡◌, List, leb, length}
+use Rattle.std.specs.Prelude.{ℕ, cond, ◌≡◌, List, leb, length}
 use Rattle.std.proofs.Math.Option.{Option, none, some}
 use Rattle.std.proofs.lemmas.List.Edits.{sets}
 use Rattle.calculus.specs.Terms.{Term}

@@ -12,13 +12,13 @@ pub step_in_place-stepped-requires : goal.step_in_place-stepped-requires
 step_in_place-stepped-requires c = some_held c.requires c.open_body.ensures c.empty_frame-f.ensures refl
 
 pub deliver-requires : goal.deliver-requires
-deliver-requires c = let u = answers_letters (step_answers c.requires c.open_body.ensures c.empty_frame-f.ensures refl [] c.step_in_place-stepped.ensures) c.stepped-1.given.1 in (u.0, u.1)
+deliver-requires c = let u = answers_letters (step_answers c.requires c.open_body.ensures c.empty_frame-f.ensures refl [] c.step_in_place-stepped.ensures) c.in-Length.is in (u.0, u.1)
 
 pub returns-in-Refused : goal.returns-in-Refused
-returns-in-Refused c = answers_unmet (step_answers c.requires c.open_body.ensures c.empty_frame-f.ensures refl _ c.step_in_place-stepped.ensures) c.enum_told-1.given.1
+returns-in-Refused c = answers_unmet (step_answers c.requires c.open_body.ensures c.empty_frame-f.ensures refl _ c.step_in_place-stepped.ensures) c.in-Refused.is
 
 pub returns-in-Outgrown : goal.returns-in-Outgrown
-returns-in-Outgrown c = answers_large (step_answers c.requires c.open_body.ensures c.empty_frame-f.ensures refl _ c.step_in_place-stepped.ensures) c.enum_told-in-Outgrown-1.given.1
+returns-in-Outgrown c = answers_large (step_answers c.requires c.open_body.ensures c.empty_frame-f.ensures refl _ c.step_in_place-stepped.ensures) c.in-Outgrown.is
 
 pub returns-in-Length : goal.returns-in-Length
-returns-in-Length c = answers_done (step_answers c.requires c.open_body.ensures c.empty_frame-f.ensures refl _ c.step_in_place-stepped.ensures) c.stepped-1.given.1 c.deliver.ensures
+returns-in-Length c = answers_done (step_answers c.requires c.open_body.ensures c.empty_frame-f.ensures refl _ c.step_in_place-stepped.ensures) c.in-Length.is c.deliver.ensures

@@ -12,13 +12,13 @@ pub type_in_place-typed-requires : goal.type_in_place-typed-requires
 type_in_place-typed-requires c = some_held c.requires c.open_body.ensures c.empty_frame-f.ensures refl
 
 pub deliver-r-requires : goal.deliver-r-requires
-deliver-r-requires c = let u = answers_letters (type_answers c.requires c.open_body.ensures c.empty_frame-f.ensures refl [] c.type_in_place-typed.ensures) c.type_inv.given.1 in (u.0, u.1)
+deliver-r-requires c = let u = answers_letters (type_answers c.requires c.open_body.ensures c.empty_frame-f.ensures refl [] c.type_in_place-typed.ensures) c.in-Length.is in (u.0, u.1)
 
 pub returns-in-Refused : goal.returns-in-Refused
-returns-in-Refused c = answers_unmet (type_answers c.requires c.open_body.ensures c.empty_frame-f.ensures refl _ c.type_in_place-typed.ensures) c.enum_told-1.given.1
+returns-in-Refused c = answers_unmet (type_answers c.requires c.open_body.ensures c.empty_frame-f.ensures refl _ c.type_in_place-typed.ensures) c.in-Refused.is
 
 pub returns-in-Outgrown : goal.returns-in-Outgrown
-returns-in-Outgrown c = answers_large (type_answers c.requires c.open_body.ensures c.empty_frame-f.ensures refl _ c.type_in_place-typed.ensures) c.enum_told-in-Outgrown-1.given.1
+returns-in-Outgrown c = answers_large (type_answers c.requires c.open_body.ensures c.empty_frame-f.ensures refl _ c.type_in_place-typed.ensures) c.in-Outgrown.is
 
 pub returns-in-Length : goal.returns-in-Length
-returns-in-Length c = answers_done (type_answers c.requires c.open_body.ensures c.empty_frame-f.ensures refl _ c.type_in_place-typed.ensures) c.type_inv.given.1 c.deliver-r.ensures
+returns-in-Length c = answers_done (type_answers c.requires c.open_body.ensures c.empty_frame-f.ensures refl _ c.type_in_place-typed.ensures) c.in-Length.is c.deliver-r.ensures

@@ -1,6 +1,5 @@
 -- `printing::fill_line` meets its contract.
 -- Assumes nothing.
-use Prim.Native.Nat.{◌-◌}
 use native.Mathlib.Omega.{arith}
 use Rattle.printing.proofs.Writing.{onward_here, room_for_blanks, fill_next, fill_end}
 use Rattle.printing.proofs.fill_line.Goals as goal

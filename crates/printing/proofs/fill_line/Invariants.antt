@@ -1,6 +1,5 @@
 -- `printing::fill_line` meets its contract.
 -- Assumes nothing.
-use Prim.Native.Nat.{◌-◌}
 use Rattle.printing.proofs.Writing.{Filling}
 use Rattle.printing.proofs.fill_line.Given as goal
 

@@ -1,6 +1,5 @@
 -- `printing::write_page` meets its contract.
 -- Assumes nothing.
-use Prim.Native.Nat.{◌-◌}
 use native.Mathlib.Omega.{arith}
 use Rattle.printing.proofs.Writing.{onward_here, room_for_cell, paging_next, room_to_fill, paging_end}
 use Rattle.printing.proofs.write_page.Goals as goal
