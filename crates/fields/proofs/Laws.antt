@@ -128,7 +128,7 @@ module _ {A : Type 0} (end : ℕ → Field) (read : ℕ → A) (n : ℕ) where
         go false q (Fault i p) e ih = stop {at = at} (leb-false n at q) e
         go false q (End m) e ih = more {at = at} (leb-false n at q) e (ih m (longer at m e)) refl
 
-    pub found_only : {at : ℕ} {q : Sequence A} (k : ℕ) → n ≤ k + at → Found at q → sequence_from end read k n at ≡ q
+    pub found_only : (k : ℕ) {at : ℕ} {q : Sequence A} → n ≤ k + at → Found at q → sequence_from end read k n at ≡ q
     unfolding sequence_from then_sequence
     found_only zero h (done l) = refl
     found_only (suc k) h (done l) = rw (le-leb _ _ l)

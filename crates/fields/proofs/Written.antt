@@ -115,7 +115,7 @@ same_term b gs = let q : 3 + length b - 3 ≡ length b = omega arith in rw q (ta
 pub same_groups : (at : ℕ) (gs : List Group) → map (λ (g : GroupAt). g.group) (groups_placed at gs) ≡ gs
 unfolding groups_placed
 same_groups at [] = refl
-same_groups at (g ∷ gs) = ap (λ (l : List Group). g ∷ l) (same_groups _ gs)
+same_groups at (g ∷ gs) = ap (λ (l : List Group). g ∷ l) (same_groups (at + 6 + length (write_steps g.left) + length (write_steps g.right)) gs)
 
 -- An accepted file is one that is written.
 module _ (s : List ℕ) (small : InBytes s) where

@@ -11,17 +11,17 @@ returns-then-s-gt-LONGEST_FILE c = c.refusal.ensures ∙ ap layout_of (sym (over
 
 pub read_groups-requires : goal.read_groups-requires
 read_groups-requires c =
-    let q = ended _ _ _ _ (sym c.read_field-term.ensures ∙ c.term-in-End-1.given.1) in
+    let q = ended _ _ _ _ (sym c.read_field-term.ensures ∙ c.in-End.is) in
     omega (arith, q.is_whole.body)
 
 pub returns-in-Fault : goal.returns-in-Fault
 returns-in-Fault c =
     c.refusal-in-Fault.ensures
     ∙ ap layout_of
-    (sym (term_fault _ c.if-s-gt-LONGEST_FILE.false (sym c.read_field-term.ensures ∙ c.term-1.given.1)))
+    (sym (term_fault _ c.if-s-gt-LONGEST_FILE.false (sym c.read_field-term.ensures ∙ c.in-Fault.is)))
 
 pub returns-in-End : goal.returns-in-End
 returns-in-End c =
     c.read_groups.ensures
     ∙ ap layout_of
-    (sym (term_end_lem _ c.if-s-gt-LONGEST_FILE.false (sym c.read_field-term.ensures ∙ c.term-in-End-1.given.1)))
+    (sym (term_end_lem _ c.if-s-gt-LONGEST_FILE.false (sym c.read_field-term.ensures ∙ c.in-End.is)))

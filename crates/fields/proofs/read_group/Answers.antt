@@ -8,11 +8,11 @@ use Rattle.fields.proofs.read_group.Goals as goal
 
 pub read_field-requires : goal.read_field-requires
 read_field-requires c =
-    let q = ended _ _ _ _ (sym c.read_field-left.ensures ∙ c.left-in-End-1.given.1) in
+    let q = ended _ _ _ _ (sym c.read_field-left.ensures ∙ c.in-End.is) in
     (omega (arith, q.is_whole.body), lit< tt)
 
 pub returns-in-Fault : goal.returns-in-Fault
-returns-in-Fault c = left_fault _ _ (sym c.read_field-left.ensures ∙ c.left-1.given.1)
+returns-in-Fault c = left_fault _ _ (sym c.read_field-left.ensures ∙ c.in-Fault.is)
 
 pub returns-in-End : goal.returns-in-End
-returns-in-End c = c.read_field.ensures ∙ left_end _ _ (sym c.read_field-left.ensures ∙ c.left-in-End-1.given.1)
+returns-in-End c = c.read_field.ensures ∙ left_end _ _ (sym c.read_field-left.ensures ∙ c.in-End.is)
