@@ -1,11 +1,11 @@
 -- `letters::read_flat` meets its contract: the loop is `Flat` of Flat.antt.
 -- Assumes nothing.
 use Prim.Native.Nat.{◌-◌}
-use mathlib.Core.Logic.{⊎_elim}
 use native.Mathlib.Omega.{arith}
 use Rattle.code.proofs.Parts.{stands_start, stands_end}
 use Rattle.letters.proofs.Reading.{reading_length, reading_end, reading_place}
 use Rattle.letters.proofs.Flat.{flat_start, flat_bounds, terminal_next, applicator_next}
+use Rattle.letters.proofs.read_flat.Goals.{then-b-lt254, else-b-lt254}
 use Rattle.letters.proofs.read_flat.Goals as goal
 
 pub overflow_mul-above : goal.overflow_mul-above
@@ -60,7 +60,11 @@ pub overflow_add-j : goal.overflow_add-j
 overflow_add-j c = omega (arith, reading_place (c.loop-i.invariant _ c.requires.0.standing.stands).reading c.loop-i-test.true c.requires.0.fits)
 
 pub loop-i-preserved : goal.loop-i-preserved
-loop-i-preserved c = λ t a. ⊎_elim (λ w. terminal_next (c.loop-i.invariant t a) c.loop-i-test.true w.0.taken c.index_of-x.ensures.0 w.1.ensures.0 w.2.ensures w.3 w.4) (λ w. applicator_next (c.loop-i.invariant t a) c.loop-i-test.true c.requires.1 w.0.left c.index_of-x.ensures.0 w.1.ensures w.2 w.3) c.if-b-lt254.branch
+loop-i-preserved c =
+    λ t a. elim c.if-b-lt254.branch [
+      | then-b-lt254 w ↦ terminal_next (c.loop-i.invariant t a) c.loop-i-test.true w.if-b-lt254.true c.index_of-x.ensures.0 w.lifted_index.ensures.0 w.with_symbol.ensures w.out-is w.above-is
+      | else-b-lt254 w ↦ applicator_next (c.loop-i.invariant t a) c.loop-i-test.true c.requires.1 w.if-b-lt254.false c.index_of-x.ensures.0 w.with_symbol-else-b-lt254.ensures w.out-is w.above-is
+    ]
 
 pub returns : goal.returns
 returns c = record { all = λ t a. reading_end (c.loop-i.invariant t a).reading c.loop-i-test.false; same_length = reading_length (c.loop-i.invariant _ c.requires.0.standing.stands).reading }

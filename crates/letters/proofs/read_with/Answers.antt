@@ -2,11 +2,11 @@
 -- Assumes nothing.
 use Prim.Native.Nat.{◌-◌}
 use mathlib.Core.Path.{refl, ◌∙◌}
-use mathlib.Core.Logic.{⊎_elim}
 use native.Mathlib.Omega.{arith}
 use Rattle.code.proofs.Parts.{stands_end}
 use Rattle.letters.specs.Clauses.{too_deep}
 use Rattle.letters.proofs.Reading.{terminal_stored, operator_stored, reading_start, reading_ready, reading_length, reading_deep, reading_next, reading_end, reading_high, reading_place}
+use Rattle.letters.proofs.read_with.Goals.{then-b-lt254, else-b-lt254}
 use Rattle.letters.proofs.read_with.Goals as goal
 
 pub loop-i-init : goal.loop-i-init
@@ -61,7 +61,13 @@ pub overflow_add-j : goal.overflow_add-j
 overflow_add-j c = omega (arith, reading_place (c.loop-i.invariant.1 _ c.requires.0.standing.stands) c.loop-i-test.true c.requires.0.fits)
 
 pub loop-i-preserved : goal.loop-i-preserved
-loop-i-preserved c = (c.advance-parts.ensures.same_length ∙ c.loop-i.invariant.0, λ t a. reading_next (c.loop-i.invariant.1 t a) c.loop-i-test.true c.if-scope-room.false (⊎_elim (λ w. terminal_stored w.0.taken c.index_of-x.ensures.0 w.1.ensures.0 w.2.ensures w.3) (λ w. operator_stored w.0.left c.index_of-x.ensures.0 w.1.ensures w.2) c.if-b-lt254.branch) c.advance-parts.ensures)
+loop-i-preserved c = (
+  c.advance-parts.ensures.same_length ∙ c.loop-i.invariant.0,
+  λ t a. reading_next (c.loop-i.invariant.1 t a) c.loop-i-test.true c.if-scope-room.false (elim c.if-b-lt254.branch [
+    | then-b-lt254 w ↦ terminal_stored w.if-b-lt254.true c.index_of-x.ensures.0 w.lifted_index.ensures.0 w.letter_of.ensures w.out-is
+    | else-b-lt254 w ↦ operator_stored w.if-b-lt254.false c.index_of-x.ensures.0 w.letter_of-else-b-lt254.ensures w.out-is
+  ]) c.advance-parts.ensures,
+)
 
 pub shape_of-stack : goal.shape_of-stack
 shape_of-stack c = c.loop-i.invariant.0
