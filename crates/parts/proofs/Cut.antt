@@ -5,8 +5,8 @@ use mathlib.Core.Path.{◌≡◌, ap, ◌∙◌}
 use mathlib.Core.List.{List, [], ◌∷◌, ◌++◌}
 use native.Mathlib.Omega.{arith}
 use native.Mathlib.Numerals.{add-one}
-use lib.ListN.{length, get_or, set, take, drop, length-take, length-drop}
-use lib.Seq.{drop-cons, take-suc, take-add, drop-drop, length-take-le, get_or-drop, drop-set-lt, drop-set-add, take-set-le}
+use lib.ListN.{length, get_or, set, take, drop, length-drop}
+use lib.Seq.{drop-cons, take-suc, length-take-le, get_or-drop, drop-set-lt, drop-set-add, take-set-le}
 use Rattle.parts.specs.Parts.{part}
 
 pub length_part : (s : List ℕ) (j k : ℕ) → k ≤ length s → length (part s j k) ≡ k - j

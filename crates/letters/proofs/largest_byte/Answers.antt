@@ -1,6 +1,5 @@
 -- `letters::largest_byte` meets its contract: the largest byte so far.
 -- Assumes nothing.
-use Prim.Native.Nat.{◌-◌}
 use native.Mathlib.Omega.{arith}
 use Rattle.letters.proofs.Flat.{up_to_next, up_to_end}
 use Rattle.letters.proofs.largest_byte.Goals as goal

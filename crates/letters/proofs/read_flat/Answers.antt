@@ -1,6 +1,5 @@
 -- `letters::read_flat` meets its contract: the loop is `Flat` of Flat.antt.
 -- Assumes nothing.
-use Prim.Native.Nat.{◌-◌}
 use native.Mathlib.Omega.{arith}
 use Rattle.code.proofs.Parts.{stands_start, stands_end}
 use Rattle.letters.proofs.Reading.{reading_length, reading_end, reading_place}

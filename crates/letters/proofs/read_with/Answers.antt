@@ -1,6 +1,5 @@
 -- `letters::read_with` meets its contract: the loop is `Reading` of Reading.antt.
 -- Assumes nothing.
-use Prim.Native.Nat.{◌-◌}
 use mathlib.Core.Path.{refl, ◌∙◌}
 use native.Mathlib.Omega.{arith}
 use Rattle.code.proofs.Parts.{stands_end}

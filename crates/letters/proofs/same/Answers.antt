@@ -1,6 +1,5 @@
 -- `letters::same` meets its contract: the loop is `Counting` of Counting.antt.
 -- Assumes nothing.
-use Prim.Native.Nat.{◌-◌}
 use mathlib.Core.Path.{refl}
 use native.Mathlib.Omega.{arith}
 use Rattle.letters.proofs.Counting.{counting_next, counting_end}

@@ -1,6 +1,5 @@
 -- `letters::write` meets its contract: the loop is `Writing` of Writing.antt.
 -- Assumes nothing.
-use Prim.Native.Nat.{◌-◌}
 use mathlib.Core.Path.{refl}
 use native.Mathlib.Omega.{arith}
 use Rattle.letters.proofs.Letters.{lies_end}

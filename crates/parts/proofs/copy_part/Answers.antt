@@ -1,6 +1,5 @@
 -- `parts::copy_part` meets its contract: each turn stores the first byte that is left.
 -- Assumes nothing.
-use Prim.Native.Nat.{◌-◌}
 use Rattle.parts.proofs.Copying.{copying_start, turn_between, copying_end}
 use Rattle.parts.proofs.copy_part.Goals as goal
 

@@ -1,7 +1,6 @@
 -- `texts::note_depths` meets its contract.
 -- Assumes nothing.
 use native.Mathlib.Omega.{arith}
-use Prim.Native.Nat.{◌-◌}
 use mathlib.Core.Path.{◌≡◌}
 use Rattle.texts.proofs.Measuring.{noted_none, noted_more}
 use Rattle.texts.proofs.note_depths.Goals as goal

@@ -1,7 +1,6 @@
 -- `waiting::copy_from` meets its contract.
 -- Assumes nothing.
 use native.Mathlib.Omega.{arith}
-use Prim.Native.Nat.{◌-◌}
 use mathlib.Core.Path.{◌≡◌, refl}
 use Rattle.waiting.proofs.Bytes.{moved_none, moved_more}
 use Rattle.waiting.proofs.copy_from.Goals as goal

@@ -1,7 +1,6 @@
 -- `waiting::copy_in` meets its contract.
 -- Assumes nothing.
 use native.Mathlib.Omega.{arith}
-use Prim.Native.Nat.{◌-◌}
 use mathlib.Core.Path.{◌≡◌}
 use mathlib.Core.Logic.{⊎_elim}
 use Rattle.waiting.proofs.Bytes.{moved_none, moved_more}

@@ -1,7 +1,6 @@
 -- `waiting::lift_copy` meets its contract: the loop is `Lifting` of Copies.antt.
 -- Assumes nothing.
 use native.Mathlib.Omega.{arith}
-use Prim.Native.Nat.{◌-◌}
 use Rattle.indices.proofs.Replace.{lifted_zero}
 use Rattle.waiting.proofs.Copies.{ends, lifting_start, place_in, depth_more, lifting_fits, lifting_next, lifting_end}
 use Rattle.waiting.proofs.lift_copy.Goals as goal
