@@ -27,10 +27,10 @@ use Rattle.fields.specs.Files.{write_file, groups_placed}
 use Rattle.fields.proofs.Laws.{over_long as file_too_long}
 use Rattle.fields.proofs.Groups.{term_length, accepted_only}
 use Rattle.fields.proofs.Written.{read_back, same_term, same_groups}
-use Rattle.examine.specs.Inspect.{Fault, no_fault, deep, inspect, judged, examined}
+use Rattle.examine.specs.Inspect.{Fault, no_fault, beyond, deep, inspect, judged, examined}
 use Rattle.examine.specs.Claims.{WellFormed}
 use Rattle.examine.proofs.Laws.{DeepAtMost, closed_deep, examined_long, examined_whole, examining_holds}
-use Rattle.verdict.specs.Verdict.{Run, passed, stopped, Progress, check_term, number}
+use Rattle.verdict.specs.Verdict.{Run, passed, stopped, Progress, check_term}
 use Rattle.verdict.proofs.Promises.{stopping}
 use Rattle.verdict.proofs.Limits.{only_limits}
 use Rattle.files.specs.File.{open_term, open_fields, open_file}
@@ -60,6 +60,7 @@ module _ (t : Term) (gs : List Group) (k : Coded t) (w : With one_pass_next (own
   of_fault : (f : Fault) → DeepAtMost f → AcceptedOrLimit (check_opened_by latest (open_term e (groups_placed e gs) (judged f t))) (applicators t) (degree ε t)
   unfolding judged open_term check_opened_by
   of_fault no_fault d = rw (same_groups e gs) (of_run (check_term t gs) refl)
+  of_fault (beyond p) d = elim d [ ]
   of_fault (deep p) d = inr too_deep
 
   closed_start : Closed 0 t
@@ -136,12 +137,12 @@ line_again t (pair K U) (coded_app k (coded_abs u b)) c = coded_app k (coded_abs
 lines_coded : {t : Term} (L : Frame) → Coded (lines L t) → Coded t
 unfolding lines
 lines_coded ε c = c
-lines_coded (L ▹ l) c = line_coded l (lines_coded L c)
+lines_coded {t = t} (L ▹ l) c = line_coded l (lines_coded {t = line l t} L c)
 
 lines_again : {r : Term} (t : Term) (L : Frame) → Coded (lines L t) → Coded r → Coded (lines L r)
 unfolding lines
 lines_again t ε c d = d
-lines_again t (L ▹ l) c d = lines_again (line l t) L c (line_again t l (lines_coded L c) d)
+lines_again {r = r} t (L ▹ l) c d = lines_again {r = line l r} (line l t) L c (line_again t l (lines_coded L c) d)
 
 -- all but the last byte of a file's term
 but_last : (n : ℕ) (x b c : List ℕ) → take n x ≡ b ++ c → take (length b) x ≡ b
