@@ -8,7 +8,6 @@ use native.Mathlib.Nat.{zero-mul, one-mul, mul-zero, suc-mul, mul-add, add-mul, 
 use native.Mathlib.Numerals.{add-one}
 use native.Mathlib.Omega.{arith}
 use lib.Dec.{leb, leb-zero}
-use lib.ListN.{length}
 use lib.Pow.{pow-add}
 use borrow.Author.Tests.{leb-true, leb-false}
 use Rattle.code.specs.Code.{Symbol, symbol, symbol_tau, symbol_var, symbol_app, symbol_abs}

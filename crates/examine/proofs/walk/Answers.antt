@@ -1,6 +1,5 @@
 -- `examine::walk` meets its contract: the loop's invariant and its turns are those of Running.antt.
 -- Assumes nothing.
-use Prim.Native.Nat.{◌-◌}
 use native.Mathlib.Omega.{arith}
 use Rattle.examine.proofs.Pending.{tested_index}
 use Rattle.examine.proofs.Running.{starts, accepting, ends, some_left, depth_small, stops, degrees_set_small, goes_on}
