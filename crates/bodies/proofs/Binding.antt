@@ -159,22 +159,22 @@ bound : {s : List ℕ} {from e d h : ℕ} {t u : Term} {p : ℕ} (M : List Term)
     → Bound s (from + p) (depth_at d w) k (λ R. entry_at (frame_at R M w) k)
 unfolding depth_at frame_at scope entry_at
 bound M k l b g here x y = absurd (omega arith)
-bound {from = from} M k l b g (in_argument {K} {B} {p = p} q w) x y =
+bound {s = s} {from = from} {e = e} {d = d} {h = h} M k l b g (in_argument {K} {B} {p = p} q w) x y =
     let P = app_parts l in
-    let i = bound [] k P.inner (omega arith) (behind_inside P (omega arith) (omega arith)) w x y in
+    let i = bound {s = s} {from = suc from} {e = P.middle} {d = d} {h = suc h} [] k P.inner (omega arith) (behind_inside P (omega arith) (omega arith)) w x y in
     wrap i (omega arith) i.means
-bound {from = from} M k l b g (in_domain {U} {B} {p = p} q w) x y =
+bound {s = s} {from = from} {e = e} {d = d} {h = h} M k l b g (in_domain {U} {B} {p = p} q w) x y =
     let P = abs_parts l in
-    let i = bound [] k P.inner (omega arith) (behind_inside P (omega arith) (omega arith)) w x y in
+    let i = bound {s = s} {from = suc from} {e = P.middle} {d = d} {h = suc h} [] k P.inner (omega arith) (behind_inside P (omega arith) (omega arith)) w x y in
     wrap i (omega arith) i.means
-bound {from = from} M k l b g (past_argument {K} {B} {p = p} w) x y =
+bound {s = s} {from = from} {e = e} {d = d} {h = h} M k l b g (past_argument {K} {B} {p = p} w) x y =
     let P = app_parts l in
-    let i = bound (K ∷ M) k P.rest (omega arith) (behind_argument P (omega arith) (omega arith) refl g) w x y in
+    let i = bound {s = s} {from = P.middle} {e = e} {d = d} {h = h} (K ∷ M) k P.rest (omega arith) (behind_argument P (omega arith) (omega arith) refl g) w x y in
     wrap i (omega (arith, P.inner.place)) i.means
 bound {s} {from} {e} {d} {h} M k l b g (past_domain {U} {B} {u = u₀} {p = p} w) x y = elim (cmp (k + suc d) (depth_at (suc d) w)) [
   | lo z ↦
       let P = abs_parts l in
-      let i = bound (unmatched couples M) k P.rest (omega arith) (behind_domain P (omega arith) (omega arith) refl g) w x z in
+      let i = bound {s = s} {from = P.middle} {e = e} {d = suc d} {h = h} (unmatched couples M) k P.rest (omega arith) (behind_domain P (omega arith) (omega arith) refl g) w x z in
       wrap i (omega (arith, P.inner.place)) (λ R. i.means (R ▹ entry_of M U))
   | hi z ↦
       let P = abs_parts l in

@@ -100,12 +100,12 @@ within {s} {q} {e} {d} {h} tau b l j x y = subst (λ i. Within s d h (d + 0) (h 
 within {s} {q} {e} {d} {h} (var k) b l j x y = subst (λ i. Within s d h (d + 0) (h + (i - q)) i) (omega (arith, l.place)) (within_first (d + 0) (omega arith) (omega arith) l)
 within {s} {q} {e} {d} {h} (app K B) b l j x y = let p = app_parts l in
     by_parts (λ i. Within s d h (d + scope (app K B)) (h + (i - q)) i) p (within_first (d + scope (app K B)) (omega arith) (omega arith) l)
-    (λ i u v. wider (omega arith) (omega arith) (omega arith) (omega arith) (within K (omega arith) p.inner i u v))
-    (λ i u v. wider (omega arith) (omega arith) (omega arith) (omega (arith, p.inner.place)) (within B (omega arith) p.rest i u v)) j x y
+    (λ i u v. wider (omega arith) (omega arith) (omega arith) (omega arith) (within {q = suc q} {e = p.middle} {d = d} {h = suc h} K (omega arith) p.inner i u v))
+    (λ i u v. wider (omega arith) (omega arith) (omega arith) (omega (arith, p.inner.place)) (within {q = p.middle} {e = e} {d = d} {h = h} B (omega arith) p.rest i u v)) j x y
 within {s} {q} {e} {d} {h} (abs U B) b l j x y = let p = abs_parts l in
     by_parts (λ i. Within s d h (d + scope (abs U B)) (h + (i - q)) i) p (within_first (d + scope (abs U B)) (omega arith) (omega arith) l)
-    (λ i u v. wider (omega arith) (omega arith) (omega arith) (omega arith) (within U (omega arith) p.inner i u v))
-    (λ i u v. wider (omega arith) (omega arith) (omega arith) (omega (arith, p.inner.place)) (within B (omega arith) p.rest i u v)) j x y
+    (λ i u v. wider (omega arith) (omega arith) (omega arith) (omega arith) (within {q = suc q} {e = p.middle} {d = d} {h = suc h} U (omega arith) p.inner i u v))
+    (λ i u v. wider (omega arith) (omega arith) (omega arith) (omega (arith, p.inner.place)) (within {q = p.middle} {e = e} {d = suc d} {h = h} B (omega arith) p.rest i u v)) j x y
 
 module _ {s : List ℕ} {q e d h : ℕ} (t : Term) (b : d + scope t < 1024) (l : Lies s q e d h t) where
   pub above : (j : ℕ) → q ≤ j → j < e → Above s d h j
@@ -119,15 +119,15 @@ pub scope_under : {s : List ℕ} {q e d h x : ℕ} (t : Term) → d + scope t < 
 unfolding scope size
 scope_under {q = q} tau b l f = omega (arith, f q (omega arith) (omega (arith, l.place)), (above tau b l q (omega arith) (omega (arith, l.place))).deep)
 scope_under {q = q} (var k) b l f = omega (arith, f q (omega arith) (omega (arith, l.place)), (above (var k) b l q (omega arith) (omega (arith, l.place))).deep)
-scope_under (app K B) b l f =
+scope_under {s = s} {q = q} {e = e} {d = d} {h = h} (app K B) b l f =
     let p = app_parts l in
-    let i = scope_under K (omega arith) p.inner (λ j x y. f j (omega arith) (omega (arith, p.inner.place, p.rest.place, l.place))) in
-    let o = scope_under B (omega arith) p.rest (λ j x y. f j (omega (arith, p.inner.place)) y) in
+    let i = scope_under {s = s} {q = suc q} {e = p.middle} {d = d} {h = suc h} K (omega arith) p.inner (λ j x y. f j (omega arith) (omega (arith, p.inner.place, p.rest.place, l.place))) in
+    let o = scope_under {s = s} {q = p.middle} {e = e} {d = d} {h = h} B (omega arith) p.rest (λ j x y. f j (omega (arith, p.inner.place)) y) in
     omega arith
-scope_under (abs U B) b l f =
+scope_under {s = s} {q = q} {e = e} {d = d} {h = h} (abs U B) b l f =
     let p = abs_parts l in
-    let i = scope_under U (omega arith) p.inner (λ j x y. f j (omega arith) (omega (arith, p.inner.place, p.rest.place, l.place))) in
-    let o = scope_under B (omega arith) p.rest (λ j x y. f j (omega (arith, p.inner.place)) y) in
+    let i = scope_under {s = s} {q = suc q} {e = p.middle} {d = d} {h = suc h} U (omega arith) p.inner (λ j x y. f j (omega arith) (omega (arith, p.inner.place, p.rest.place, l.place))) in
+    let o = scope_under {s = s} {q = p.middle} {e = e} {d = suc d} {h = h} B (omega arith) p.rest (λ j x y. f j (omega (arith, p.inner.place)) y) in
     omega arith
 
 -- The height that a term's first letter says.

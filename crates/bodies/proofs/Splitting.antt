@@ -90,9 +90,9 @@ inner_there {s} {H = H} {m = m} a b r = record {
 pub there : {s : List ℕ} {from e d h n : ℕ} {t u : Term} {p : ℕ} → d + scope t < 1024 → Lies s from e d h t → (w : Way t p u) → n ≡ from + p → There s e n (depth_at d w) (height_at h w) u
 unfolding depth_at height_at scope
 there {s} {from} {e} {d} {h} {n} {t} b l here q = record { end = e; lies = subst (λ x. Lies s x e d h t) (omega arith) l; within = omega arith; next = inl refl }
-there {h = h} b l (in_argument i w) q = let P = app_parts l in
-    inner_there (omega (arith, lies_end P.rest)) (omega (arith, head_height (omega arith) P.rest, height_least (suc h) w)) (there (omega arith) P.inner w (omega arith))
-there b l (past_argument w) q = let P = app_parts l in there (omega arith) P.rest w (omega (arith, P.inner.place))
-there {h = h} b l (in_domain i w) q = let P = abs_parts l in
-    inner_there (omega (arith, lies_end P.rest)) (omega (arith, head_height (omega arith) P.rest, height_least (suc h) w)) (there (omega arith) P.inner w (omega arith))
-there b l (past_domain w) q = let P = abs_parts l in there (omega arith) P.rest w (omega (arith, P.inner.place))
+there {s = s} {from = from} {e = e} {d = d} {h = h} b l (in_argument i w) q = let P = app_parts l in
+    inner_there (omega (arith, lies_end P.rest)) (omega (arith, head_height (omega arith) P.rest, height_least (suc h) w)) (there {s = s} {from = suc from} {e = P.middle} {d = d} {h = suc h} (omega arith) P.inner w (omega arith))
+there {s = s} {from = from} {e = e} {d = d} {h = h} b l (past_argument w) q = let P = app_parts l in there {s = s} {from = P.middle} {e = e} {d = d} {h = h} (omega arith) P.rest w (omega (arith, P.inner.place))
+there {s = s} {from = from} {e = e} {d = d} {h = h} b l (in_domain i w) q = let P = abs_parts l in
+    inner_there (omega (arith, lies_end P.rest)) (omega (arith, head_height (omega arith) P.rest, height_least (suc h) w)) (there {s = s} {from = suc from} {e = P.middle} {d = d} {h = suc h} (omega arith) P.inner w (omega arith))
+there {s = s} {from = from} {e = e} {d = d} {h = h} b l (past_domain w) q = let P = abs_parts l in there {s = s} {from = P.middle} {e = e} {d = suc d} {h = h} (omega arith) P.rest w (omega (arith, P.inner.place))

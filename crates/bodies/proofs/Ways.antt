@@ -148,10 +148,10 @@ means_outside d (past_domain {U = U} w) R M k l = past R (entry_of M U) k d (dep
 closed_along : {R : Frame} {M : List Term} {t u : Term} {p : ℕ} (n : ℕ) → depth R ≡ n → ClosedFrame R → Before n M → Closed n t → (w : Way t p u) → Closed (depth (frame_at R M w)) u
 unfolding depth frame_at
 closed_along n q r c d here = rw q d
-closed_along n q r c (closed_app d b) (in_argument h w) = closed_along n q r no_before d w
-closed_along n q r c (closed_app d b) (past_argument w) = closed_along n q r (before d c) b w
-closed_along n q r c (closed_abs d b) (in_domain h w) = closed_along n q r no_before d w
-closed_along n q r c (closed_abs d b) (past_domain w) = closed_along (suc n) (ap suc q) (closed_entry r (rw q (entry_of_closed c d))) (before_past couples c) b w
+closed_along {R = R} n q r c (closed_app d b) (in_argument h w) = closed_along {R = R} {M = []} n q r no_before d w
+closed_along {R = R} {M = M} n q r c (closed_app d b) (past_argument {K = K} w) = closed_along {R = R} {M = K ∷ M} n q r (before d c) b w
+closed_along {R = R} n q r c (closed_abs d b) (in_domain h w) = closed_along {R = R} {M = []} n q r no_before d w
+closed_along {R = R} {M = M} n q r c (closed_abs d b) (past_domain {U = U} w) = closed_along {R = R ▹ entry_of M U} {M = unmatched couples M} (suc n) (ap suc q) (closed_entry r (rw q (entry_of_closed c d))) (before_past couples c) b w
 
 pub way_closed : {R : Frame} {t u : Term} {p : ℕ} → ClosedFrame R → Closed (depth R) t → (w : Way t p u) → Closed (depth R + depth_at 0 w) u
 way_closed {R} {u = u} r c w = subst (λ n. Closed n u) (omega (arith, frame_depth 0 R [] w)) (closed_along (depth R) refl r no_before c w)

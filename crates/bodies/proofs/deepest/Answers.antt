@@ -1,6 +1,5 @@
 -- `bodies::deepest` meets its contract: the loop is `Deepening` of Lifting.antt.
 -- Assumes nothing.
-use Prim.Native.Nat.{◌-◌}
 use native.Mathlib.Omega.{arith}
 use Rattle.letters.proofs.Letters.{lies_end}
 use Rattle.bodies.proofs.Lifting.{deepening_next, deepest_is}

@@ -1,6 +1,5 @@
 -- `bodies::end_of` meets its contract: the letters passed are high enough.
 -- Assumes nothing.
-use Prim.Native.Nat.{◌-◌}
 use native.Mathlib.Omega.{arith}
 use Rattle.bodies.proofs.Endings.{ending_next}
 use Rattle.bodies.proofs.end_of.Goals as goal

@@ -1,11 +1,10 @@
 -- `bodies::lift_part` meets its contract: the loop is `Mapping` of Mapping.antt, its stores past the source.
 -- Assumes nothing.
-use Prim.Native.Nat.{◌-◌}
 use native.Mathlib.Omega.{arith}
 use mathlib.Core.Path.{sym, subst, ◌∙◌}
 use mathlib.Core.Logic.{inr}
 use Rattle.letters.proofs.Letters.{lies_end}
-use Rattle.bodies.specs.Moving.{lifted_letter, LiftableLetter}
+use Rattle.bodies.specs.Moving.{LiftableLetter}
 use Rattle.bodies.proofs.Mapping.{storing_end, mapping_start, next_letter, mapping_next}
 use Rattle.bodies.proofs.Lifting.{liftable_letter, lifts}
 use Rattle.bodies.proofs.lift_part.Goals as goal

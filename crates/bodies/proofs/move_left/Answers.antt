@@ -1,6 +1,5 @@
 -- `bodies::move_left` meets its contract: each turn stores the first letter that is left.
 -- Assumes nothing.
-use Prim.Native.Nat.{◌-◌}
 use native.Mathlib.Omega.{arith}
 use Rattle.parts.proofs.Copying.{copying_start, turn_left, copying_end}
 use Rattle.bodies.proofs.move_left.Goals as goal

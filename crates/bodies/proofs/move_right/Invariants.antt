@@ -1,7 +1,7 @@
 -- `bodies::move_right` meets its contract: each turn stores the last letter that is left.
 -- Assumes nothing.
 -- A part stored over itself changes nothing.
-use Prim.Native.Nat.{◌+◌, ◌-◌}
+use Prim.Native.Nat.{◌+◌}
 use Rattle.parts.specs.Parts.{part}
 use Rattle.parts.proofs.Copying.{Copying}
 use Rattle.bodies.proofs.move_right.Given as goal

@@ -1,7 +1,6 @@
 -- `bodies::put` meets its contract, by the laws of Putting.antt.
 -- Assumes nothing.
 use native.Mathlib.Omega.{arith}
-use borrow.Author.Tests.{not-true, not-false}
 use Rattle.bodies.proofs.Putting.{put_bounds, put_long, put_room, put_sourced, put_deep, put_done}
 use Rattle.bodies.proofs.put.Goals as goal
 
@@ -39,7 +38,7 @@ pub write_source-requires : goal.write_source-requires
 write_source-requires c = put_sourced c.requires c.depth_of-d.ensures.0 c.height_of.ensures.0 c.if-m-gt-LONGEST_TERM.false c.move_right.ensures
 
 pub returns-then-not-write_source : goal.returns-then-not-write_source
-returns-then-not-write_source c = put_deep c.requires c.depth_of-d.ensures.0 c.height_of.ensures.0 c.if-m-gt-LONGEST_TERM.false c.move_right.ensures c.write_source.ensures (not-true _ c.if-not-write_source.true)
+returns-then-not-write_source c = put_deep c.requires c.depth_of-d.ensures.0 c.height_of.ensures.0 c.if-m-gt-LONGEST_TERM.false c.move_right.ensures c.write_source.ensures c.if-not-write_source.true
 
 pub returns : goal.returns
-returns c = put_done c.requires c.depth_of-d.ensures.0 c.height_of.ensures.0 c.if-m-gt-LONGEST_TERM.false c.move_right.ensures c.write_source.ensures (not-false _ c.if-not-write_source.false)
+returns c = put_done c.requires c.depth_of-d.ensures.0 c.height_of.ensures.0 c.if-m-gt-LONGEST_TERM.false c.move_right.ensures c.write_source.ensures c.if-not-write_source.false

@@ -1,6 +1,5 @@
 -- `bodies::skip_high` meets its contract: the letters passed are high enough.
 -- Assumes nothing.
-use Prim.Native.Nat.{◌-◌}
 use native.Mathlib.Omega.{arith}
 use Rattle.bodies.proofs.Endings.{ending_four}
 use Rattle.bodies.proofs.skip_high.Goals as goal
