@@ -1,4 +1,4 @@
-// Links the proved library, built by `rt staticlib exports`.
+// Links the proved library, built by `program/build`.
 fn main() {
     let folder = std::env::var("BIJTERNE_LIB")
         .unwrap_or_else(|_| concat!(env!("CARGO_MANIFEST_DIR"), "/../target/staticlib").into());

@@ -2,151 +2,123 @@
 // filled with aa; of a page the text. differential/src/named.rs has the examples and the edges.
 #![tactic(auto)]
 
-fn number(n: usize) {
-    io::write_all(1, b" ");
-    io::print_decimal(1, n as u64);
-}
+use std::io;
 
-fn wide(b: u8) -> u64 {
-    b as u64
-}
-
-fn bytes(s: &[u8]) {
-    io::write_all(1, b" ");
-    let mut i: usize = 0;
-    while i < s.len() {
-        io::print_hex(1, wide(s[i]), 2);
-        i += 1;
+fn bytes(rt: &impl Print, s: &[u8]) -> io::Result<()> {
+    print!(rt; " ")?;
+    for byte in s {
+        print!(rt; "{byte:02x}")?;
     }
-    io::write_all(1, b"\n");
+    println!(rt; "")
 }
 
-fn examine_term(s: &[u8]) {
+fn examine_term(rt: &impl Print, s: &[u8]) -> io::Result<()> {
     let r = examine::examine_term(s);
-    io::write_all(1, b"examine a term:");
-    number(r.number as usize);
-    number(r.place);
-    number(r.degree);
-    io::write_all(1, b"\n");
+    let (number, place, degree) = (r.number, r.place, r.degree);
+    println!(rt; "examine a term: {number} {place} {degree}")
 }
 
 // The term is handed back as a part of the caller's own bytes.
-fn examine_file(s: &[u8]) {
-    let mut code: u32 = 0;
+fn examine_file(rt: &impl Print, s: &[u8]) -> io::Result<()> {
+    let mut number: u32 = 0;
     let mut place: usize = 0;
-    let part = calls::examine_file(s, &mut code, &mut place);
-    io::write_all(1, b"examine a file:");
-    number(code as usize);
-    number(place);
-    number(part.len());
-    bytes(part);
+    let part = calls::examine_file(s, &mut number, &mut place);
+    let length = part.len();
+    print!(rt; "examine a file: {number} {place} {length}")?;
+    bytes(rt, part)
 }
 
-fn write_type(s: &[u8]) {
+fn write_type(rt: &impl Print, s: &[u8]) -> io::Result<()> {
     let mut out: [u8; 8] = [0xaa; 8];
     let r = calls::write_type(s, &mut out);
-    io::write_all(1, b"write a type:");
+    print!(rt; "write a type:")?;
     match r {
-        calls::TypeAnswer::Nothing => {
-            io::write_all(1, b" none");
-        }
-        calls::TypeAnswer::Answer(code, place, length) => {
-            number(code as usize);
-            number(place);
-            number(length);
+        calls::TypeAnswer::Nothing => print!(rt; " none")?,
+        calls::TypeAnswer::Answer(number, place, length) => {
+            print!(rt; " {number} {place} {length}")?;
         }
     }
-    bytes(&out);
+    bytes(rt, &out)
 }
 
-fn apply_step(s: &[u8], kind: u8, place: u16) {
+fn apply_step(rt: &impl Print, s: &[u8], kind: u8, place: u16) -> io::Result<()> {
     let mut out: [u8; 8] = [0xaa; 8];
     let r = calls::apply_step(s, kind, place, &mut out);
-    io::write_all(1, b"apply a step:");
-    number(r.number as usize);
-    number(r.place);
-    number(r.length);
-    bytes(&out);
+    let (number, at, length) = (r.number, r.place, r.length);
+    print!(rt; "apply a step: {number} {at} {length}")?;
+    bytes(rt, &out)
 }
 
-fn print_term(s: &[u8]) {
+fn print_term(rt: &impl Print, s: &[u8]) -> io::Result<()> {
     let mut out: [u8; 73] = [0xaa; 73];
     let r = printing::print_term(s, &mut out);
-    io::write_all(1, b"print a term:");
-    number(r.number as usize);
-    number(r.place);
-    number(r.length);
-    io::write_all(1, b"\n");
-    if r.number == 0 {
-        io::write_all(1, &out);
+    let (number, place, length) = (r.number, r.place, r.length);
+    println!(rt; "print a term: {number} {place} {length}")?;
+    if number == 0 {
+        rt.write_all(&out)?;
     }
+    Ok(())
 }
 
-fn count_strings(length: usize) {
+fn count_strings(rt: &impl Print, length: usize) -> io::Result<()> {
     let r = counting::count_strings(length);
-    io::write_all(1, b"count strings:");
-    number(r.number as usize);
-    number(r.accepted as usize);
-    number(r.malformed as usize);
-    number(r.unbound as usize);
-    io::write_all(1, b"\n");
+    let (number, accepted) = (r.number, r.accepted);
+    let (malformed, unbound) = (r.malformed, r.unbound);
+    println!(rt; "count strings: {number} {accepted} {malformed} {unbound}")
 }
 
-fn check(s: &[u8]) {
+fn check(rt: &impl Print, s: &[u8]) -> io::Result<()> {
     let r = checker::check(s);
-    io::write_all(1, b"check a file:");
-    number(r.number as usize);
-    number(r.place);
-    number(r.comparisons);
-    number(r.degree);
-    io::write_all(1, b"\n");
+    let (number, place) = (r.number, r.place);
+    let (comparisons, degree) = (r.comparisons, r.degree);
+    println!(rt; "check a file: {number} {place} {comparisons} {degree}")
 }
 
-fn explain(s: &[u8]) {
+fn explain(rt: &impl Print, s: &[u8]) -> io::Result<()> {
     let mut left: [u8; 4] = [0xaa; 4];
     let mut right: [u8; 4] = [0xaa; 4];
     let r = explaining::explain(s, &mut left, &mut right);
-    io::write_all(1, b"explain a refusal:");
-    number(r.number as usize);
-    number(r.place);
-    number(r.comparisons);
-    number(r.degree);
-    number(r.first);
-    number(r.second);
-    number(r.third);
-    bytes(&left);
-    bytes(&right);
+    let (number, place) = (r.number, r.place);
+    let (comparisons, degree) = (r.comparisons, r.degree);
+    print!(rt; "explain a refusal: {number} {place} {comparisons} {degree}")?;
+    let (first, second, third) = (r.first, r.second, r.third);
+    print!(rt; " {first} {second} {third}")?;
+    bytes(rt, &left)?;
+    bytes(rt, &right)
 }
 
-fn check_set(s: &[u8]) {
+fn check_set(rt: &impl Print, s: &[u8]) -> io::Result<()> {
     let r = sets::check_set(s);
-    io::write_all(1, b"check a set:");
-    number(r.file);
-    number(r.number as usize);
-    number(r.place);
-    number(r.comparisons);
-    number(r.degree);
-    io::write_all(1, b"\n");
+    let (file, number, place) = (r.file, r.number, r.place);
+    let (comparisons, degree) = (r.comparisons, r.degree);
+    println!(rt; "check a set: {file} {number} {place} {comparisons} {degree}")
 }
 
-fn main() {
-    examine_term(b"\xff\x00\xff\x01\x01");
-    examine_file(b"\x01\x00\x01\x00");
-    examine_file(b"\x01\x00\x02\x00");
-    write_type(b"\xff\x00\xff\x01\x01");
-    write_type(b"\x00");
-    apply_step(b"\xff\x00\xfe\x01\xff\x01\x02", 2, 2);
-    apply_step(b"\xff\x00\xfe\x01\xff\x01\x01", 2, 2);
-    apply_step(b"\xff\x00\xfe\x01\xff\x01\x01", 3, 2);
-    print_term(b"\xff\x00\xff\x01\xfe\x01\xff\x02\x01");
-    print_term(b"\x01");
-    count_strings(3);
-    count_strings(8);
-    check(b"\x01\x00\x09\xff\x00\xff\x01\xfe\x01\xff\x02\x01\x02\x00\x00\x03\x00\x00");
+fn main(rt: HostRuntime) -> io::Result<()> {
+    examine_term(&rt, b"\xff\x00\xff\x01\x01")?;
+    examine_file(&rt, b"\x01\x00\x01\x00")?;
+    examine_file(&rt, b"\x01\x00\x02\x00")?;
+    write_type(&rt, b"\xff\x00\xff\x01\x01")?;
+    write_type(&rt, b"\x00")?;
+    apply_step(&rt, b"\xff\x00\xfe\x01\xff\x01\x02", 2, 2)?;
+    apply_step(&rt, b"\xff\x00\xfe\x01\xff\x01\x01", 2, 2)?;
+    apply_step(&rt, b"\xff\x00\xfe\x01\xff\x01\x01", 3, 2)?;
+    print_term(&rt, b"\xff\x00\xff\x01\xfe\x01\xff\x02\x01")?;
+    print_term(&rt, b"\x01")?;
+    count_strings(&rt, 3)?;
+    count_strings(&rt, 8)?;
+    check(
+        &rt,
+        b"\x01\x00\x09\xff\x00\xff\x01\xfe\x01\xff\x02\x01\x02\x00\x00\x03\x00\x00",
+    )?;
     explain(
+        &rt,
         b"\x01\x00\x0d\xff\x00\xff\xff\x01\x00\xfe\x01\xff\xff\x00\x00\x00\x02\x00\x00\x03\x00\x00",
-    );
-    explain(b"\x01\x00\x05\xfe\x00\xfe\x00\x00");
-    check_set(b"\x05\x00\x04\x01\x00\x01\x00\x05\x00\x04\x01\x00\x01\x00");
-    check_set(b"\x05\x00\x04\x01\x00\x01\x00\x05\x00\x00");
+    )?;
+    explain(&rt, b"\x01\x00\x05\xfe\x00\xfe\x00\x00")?;
+    check_set(
+        &rt,
+        b"\x05\x00\x04\x01\x00\x01\x00\x05\x00\x04\x01\x00\x01\x00",
+    )?;
+    check_set(&rt, b"\x05\x00\x04\x01\x00\x01\x00\x05\x00\x00")
 }

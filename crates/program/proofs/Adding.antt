@@ -6,7 +6,7 @@ use mathlib.Core.List.{List}
 use native.Mathlib.Omega.{arith}
 use lib.ListN.{length}
 use borrow.Rule.Slice.PartMut.{mid_of, put_mid, mid_len, same_len_mid}
-use Rattle.io.proofs.Counting.{prefix_len_of_le}
+use Rattle.streams.proofs.Counting.{prefix_len_of_le}
 use Rattle.printing.specs.Page.{cells_in_line, lines, page_length}
 use Rattle.printing.specs.Clauses.{cells_of}
 use Rattle.printing.proofs.Writing.{length_page_bytes}

@@ -9,7 +9,7 @@ use lib.Seq.{length-sets}
 use Rattle.code.specs.Limits.{longest_term}
 use Rattle.code.specs.Code.{Bytes, encode}
 use Rattle.code.proofs.RoundTrip.{length_encode}
-use Rattle.io.proofs.Counting.{prefix_len_of_le}
+use Rattle.streams.proofs.Counting.{prefix_len_of_le}
 use Rattle.explaining.specs.Explain.{Explanation, explain_file}
 use Rattle.explaining.specs.Clauses.{explained_says}
 use Rattle.explaining.specs.Claims.{BodiesTold}

@@ -1,7 +1,7 @@
 -- Inner contracts: how long the parts of an answer may be, in bytes. What is added to a text has room there, so that nothing is cut short.
 -- Assumes nothing.
 use Rattle.std.specs.Prelude.{ℕ, ◌+◌, ◌-◌, ◌≤◌, ◌<◌, ◌≡◌, List, length}
-use Rattle.io.specs.Counts.{IsPrefixLen}
+use Rattle.streams.specs.Clauses.{IsPrefixLen}
 use Rattle.code.specs.Limits.{longest_term}
 use Rattle.printing.specs.Page.{page_length}
 

@@ -1,9 +1,11 @@
 -- `walk::past` meets its contract.
 -- Assumes nothing.
-use Prim.Native.Nat.{◌+◌}
-use mathlib.Core.Logic.{⊎_elim}
+use Rattle.std.proofs.Common.{◌≡◌, ◌+◌, cond}
 use Rattle.walk.proofs.Numbers.{chosen, other}
+use Rattle.walk.proofs.past.Goals.{then-s, else-s}
 use Rattle.walk.proofs.past.Goals as goal
 
 pub returns : goal.returns
-returns c = rw (⊎_elim (λ w. chosen _ c.args.s.place w.0.taken w.1) (λ w. other _ (c.args.s.from + 1 + c.args.n) w.0.left w.1) c.if-s.branch)
+returns c =
+    let m : c.if-s.place ≡ cond c.args.s.own (c.args.s.from + 1 + c.args.n) c.args.s.place = elim c.if-s.branch [ then-s w ↦ chosen _ c.args.s.place w.if-s.true w.place-is | else-s w ↦ other _ (c.args.s.from + 1 + c.args.n) w.if-s.false w.place-is ] in
+    rw m

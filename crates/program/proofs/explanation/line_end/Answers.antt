@@ -1,7 +1,7 @@
 -- `program::explanation::line_end` meets its contract.
 -- Assumes nothing.
 use native.Mathlib.Omega.{arith}
-use Rattle.io.proofs.Counting.{prefix_len_of_le}
+use Rattle.streams.proofs.Counting.{prefix_len_of_le}
 use Rattle.program.proofs.explanation.line_end.Goals as goal
 
 pub returns-then-end-s : goal.returns-then-end-s
