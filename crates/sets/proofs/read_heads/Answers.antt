@@ -20,15 +20,15 @@ loop-at-init c = (omega arith, ap (heads_of _) (sym (starts _ c.if-n-gt-LONGEST_
 pub returns-in-Fault : goal.returns-in-Fault
 returns-in-Fault c =
     let l = c.loop-at in
-    sym (head_faulty _ c.loop-at-test.true (sym c.read_field-found.ensures ∙ c.enum_told-1.given.1)) ∙ l.invariant.1
+    sym (head_faulty _ c.loop-at-test.true (sym c.read_field-found.ensures ∙ c.in-Fault.is)) ∙ l.invariant.1
 
 pub loop-at-smaller : goal.loop-at-smaller
-loop-at-smaller c = omega (arith, (ended 5 1 _ _ (sym c.read_field-found.ensures ∙ c.found-1.given.1)).is_end)
+loop-at-smaller c = omega (arith, (ended 5 1 _ _ (sym c.read_field-found.ensures ∙ c.in-End.is)).is_end)
 
 pub loop-at-preserved : goal.loop-at-preserved
 loop-at-preserved c =
     let l = c.loop-at in
-    let q = sym c.read_field-found.ensures ∙ c.found-1.given.1 in
+    let q = sym c.read_field-found.ensures ∙ c.in-End.is in
     let g = ended 5 1 _ _ q in
     (omega (arith, g.is_end, g.is_whole.body), head_whole _ c.loop-at-test.true q ∙ l.invariant.1)
 
