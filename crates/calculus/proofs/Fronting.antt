@@ -6,11 +6,11 @@ use mathlib.Core.Option.{some}
 use mathlib.Core.List.{List, [], ◌∷◌, ◌++◌, map, append_assoc, append-nil}
 use native.Mathlib.Omega.{arith}
 use Rattle.calculus.specs.Terms.{Term, tau, var, app, abs, lift, Closed, closed_tau, closed_var, closed_app, closed_abs}
-use Rattle.calculus.specs.Frames.{Entry, single, pair, Frame, ε, ◌▹◌, depth, entry_at, ClosedEntry, closed_single, closed_pair, ClosedFrame, closed_entry, map_entry}
+use Rattle.calculus.specs.Frames.{Entry, single, pair, Frame, ε, ◌▹◌, depth, entry_at, ClosedEntry, closed_single, closed_pair, ClosedFrame, closed_entry, map_entry, Insert, insert_none, insert_one, Promote}
 use Rattle.calculus.specs.Types.{degree}
 use Rattle.calculus.specs.Rules.{Group, Same, lift_all, State, own, copied, Next, plain_next, With}
-use Rattle.calculus.specs.Growth.{up, rename, Grown, as_it_was, inserted, kept, paired, here, grown_own, grown_copied, NewClosed, Insert, insert_none, insert_one, Promote, before, in_front, line, lines, Lines, no_line, one_line, Parts, GrownLines, lines_kept, line_inserted, line_kept, line_paired}
-use Rattle.calculus.specs.Claims.{Growing, FrameGrowth}
+use Rattle.calculus.specs.Growth.{up, rename, Grown, as_it_was, inserted, kept, paired, here, grown_own, grown_copied, NewClosed, before, in_front, line, lines, Lines, no_line, one_line, Parts, GrownLines, lines_kept, line_inserted, line_kept, line_paired}
+use Rattle.calculus.specs.Claims.{Growing, FrameGrowth, Weakening, BothWeaken}
 use Rattle.calculus.proofs.Ren.{shift, lift_ren, no_some}
 use Rattle.calculus.proofs.Weaken.{grow_refl, unchanged, same_ren}
 use Rattle.calculus.proofs.Frames.{id, map_id, ren_id, all_id, grown_ren, grown_insert, grown_promote, all_shift}
@@ -231,6 +231,12 @@ module _ {next : State → Next} (f : Follows next) (is : (s : State) → Shared
   lines_after (line_paired {ρ} K U l u k s) =
       one_line (pair K (rename ρ U)) (lines_after l) (line_of is (pair K (rename ρ U)) (head_pair k (stays f (by_growth (frames_of l)) (grown_own here) u) s))
 
+  weakening : Weakening next
+  weakening = record {
+    insert = λ W B i d. insert i (record { derivation = d; same_groups = refl });
+    promote = λ W B p d. promote p (record { derivation = d; same_groups = refl });
+  }
+
   growing : Growing next
   growing = record {
     stays = λ g s w. stays f (by_growth g) s w;
@@ -243,6 +249,9 @@ module _ {next : State → Next} (f : Follows next) (is : (s : State) → Shared
     text_grows = λ l w. (one_text is (lines_before l) w, one_text is (lines_after l) (stays f (by_growth (frames_of l)) (grown_own here) w));
     lines_in_front = λ {L} l w. one_text is l (alone L w);
   }
+
+pub both_weaken : BothWeaken
+both_weaken = record { plain = weakening plain_follows (λ s h. refl); one_pass = weakening one_pass_follows shared }
 
 pub frame_growth : FrameGrowth
 unfolding same_ren id

@@ -60,17 +60,6 @@ NewClosed (kept e g) = NewClosed g
 NewClosed (paired {R' = R'} K U g) = Closed (depth R') K × NewClosed g
 
 -- BY THEMSELVES
--- Insert n c R R': R' is R with n entries inserted before its last c entries, and what stands after them lifted.
-pub data Insert : ℕ → ℕ → Frame → Frame → Type 0 where
-  insert_none : {R : Frame} → Insert 0 0 R R
-  insert_one : {n : ℕ} {R R' : Frame} (e : Entry) → Insert n 0 R R' → Insert (suc n) 0 R (R' ▹ e)
-  insert_before : {n c : ℕ} {R R' : Frame} (e : Entry) → Insert n c R R' → Insert n (suc c) (R ▹ e) (R' ▹ map_entry (lift n c) e)
-
--- Promote R R': R' is R with one of its single abstractors [U] made a pair ⟨K⟩[U].
-pub data Promote : Frame → Frame → Type 0 where
-  promote_last : {R : Frame} (K U : Term) → Promote (R ▹ single U) (R ▹ pair K U)
-  promote_before : {R R' : Frame} (e : Entry) → Promote R R' → Promote (R ▹ e) (R' ▹ e)
-
 -- Such a growth, where what stands after the frame is changed by f.
 pub record GrownBy (f : Term → Term) (R R' : Frame) : Type 0 where
   pub renaming : ℕ → ℕ

@@ -1,6 +1,8 @@
-// The program as Rattle builds it. Rattle's main has no exit status: program/main.c hands it over.
+// The program `explain`: crates/program has all of it.
 #![tactic(auto)]
 
-fn main() {
-    let _status = program::explain_run();
+use std::process::ExitCode;
+
+fn main(rt: HostRuntime) -> ExitCode {
+    program::explain_run(&rt)
 }

@@ -1,6 +1,8 @@
-// The program as Rattle builds it. Rattle's main has no exit status: program/main.c hands it over.
+// The program `page`: crates/program has all of it.
 #![tactic(auto)]
 
-fn main() {
-    let _status = program::page_run();
+use std::process::ExitCode;
+
+fn main(rt: HostRuntime) -> ExitCode {
+    program::page_run(&rt)
 }

@@ -1,3 +1,4 @@
 -- The laws of this crate.
 -- Assumes nothing.
-pub mod Digits
+pub mod Counting
+pub mod Reading

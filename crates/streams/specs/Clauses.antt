@@ -1,7 +1,10 @@
 -- Inner contracts: what is added to a text.
 -- Assumes nothing.
-use Rattle.std.specs.Prelude.{ℕ, ◌+◌, ◌≤◌, ◌≡◌, List, length}
-use Rattle.io.specs.Counts.{IsPrefixLen}
+use Rattle.std.specs.Prelude.{ℕ, ◌+◌, ◌≤◌, ◌≡◌, List, length, take}
+
+-- n bytes stand at the start of a text.
+abbrev pub IsPrefixLen : ℕ → List ℕ → Type 0
+IsPrefixLen n text = (n ≤ length text) × (n ≡ length (take n text))
 
 -- A number of 64 bits in decimal, and a byte after it.
 abbrev pub number_room : ℕ

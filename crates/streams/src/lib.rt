@@ -1,124 +1,55 @@
-// Standard input, output and error for the programs: the whole input or a failure, and a text put together for one write.
+// Reading for the programs: the whole input or the error; a text put together for one write; and what a failure says of itself.
 #![tactic(auto)]
 
-ghost use Rattle.std.specs.Prelude.{◌≡◌, ◌+◌, ◌≤◌, length};
-ghost use Rattle.io.specs.Counts.{IsPrefixLen};
+ghost use Rattle.std.specs.Prelude.{◌≡◌, ◌+◌, ◌≤◌, ◌⊎◌, length, take, IfOk, OnOk};
+ghost use Rattle.std.specs.Io.{ReadsAtMost};
+ghost use Rattle.std.specs.Io.KnownBytes.{Appends, Consumes, IsAtEnd};
 ghost use Rattle.streams.specs.Clauses.{number_room, Added};
 
-// What reading came to: how many bytes stand at the buffer's start, and whether a read failed.
-#[derive(Drop)]
-pub struct Input {
-    pub length: usize,
-    pub failed: bool,
-}
+use std::alloc::{AllocError, Global};
+use std::io;
+use std::io::{Error, ErrorKind, Read, Write};
 
-// What one read or write moved; none where a signal interrupted it, which is to be tried again.
-#[derive(Drop)]
-struct Moved {
-    bytes: usize,
-    ended: bool,
-    failed: bool,
-}
-
-fn not_moved() -> Moved
-    ensures { result.bytes ≤ 0 }
-{
-    Moved {
-        bytes: 0,
-        ended: false,
-        failed: os::errno() != libc::EINTR,
-    }
-}
-
-fn read_once(s: &mut [u8]) -> Moved
-    ensures { (result.bytes ≤ length s.old) × (length s.new ≡ length s.old) }
-{
-    let got = libc::read(libc::STDIN_FILENO, s);
-    if got < 0 {
-        return not_moved();
-    }
-    Moved {
-        bytes: io::count(got, s),
-        ended: got == 0,
-        failed: false,
-    }
-}
-
-fn write_once(to: i32, s: &[u8]) -> Moved
-    ensures { result.bytes ≤ length s.now }
-{
-    let put = libc::write(to, s);
-    if put < 0 {
-        return not_moved();
-    }
-    Moved {
-        bytes: io::count(put, s),
-        ended: put == 0,
-        failed: false,
-    }
-}
-
-fn whole(n: usize) -> Input
-    ensures { result.length ≡ n }
-{
-    Input {
-        length: n,
-        failed: false,
-    }
-}
-
-fn failure() -> Input
-    ensures { result.length ≡ 0 }
-{
-    Input {
-        length: 0,
-        failed: true,
-    }
-}
-
-// Reads until the input ends or the buffer is full. A proved loop has to end, and nothing says that an input does: so it counts its
-// turns down, from a number that no run uses up.
-pub fn read_input(s: &mut [u8]) -> Input
-    ensures { IsPrefixLen result.length s.new × (length s.new ≡ length s.old) }
+// Reads until the input ends or the buffer is full: how many bytes stand at the buffer's start. A read that a signal interrupted is tried
+// again. A proved loop has to end, and nothing says that an input does: so it counts its turns, to a number that no run reaches.
+pub fn read_input<R: Read>(reader: &mut R, s: &mut [u8]) -> io::Result<usize>
+    ensures counts { ReadsAtMost result s.new }
+    ensures same_length { length s.new ≡ length s.old }
+    ensures bytes { IfOk result (λ n. Consumes (R.remaining reader.old) (R.remaining reader.new) (take n s.new)) }
+    ensures whole { IfOk result (λ n. (n ≡ length s.new) ⊎ IsAtEnd (R.remaining reader.new)) }
 {
     let mut n: usize = 0;
-    let mut turns = u64::MAX;
-    while turns > 0 {
-        if n == s.len() {
-            return whole(n);
+    for _turn in 0..u64::MAX {
+        if n >= s.len() {
+            return Ok(n);
         }
-        let m = read_once(&mut s[n..]);
-        if m.ended {
-            return whole(n);
+        match reader.read(&mut s[n..]) {
+            Ok(0) => return Ok(n),
+            Ok(moved) => n += moved,
+            Err(error) => {
+                if error.kind() != ErrorKind::Interrupted {
+                    return Err(error);
+                }
+            }
         }
-        if m.failed {
-            return failure();
-        }
-        n += m.bytes;
-        turns -= 1;
     }
-    failure()
+    Err(Error::other("too many reads"))
 }
 
-// Writes all of s to a descriptor, in one write if the system takes it so. Whether it could be written.
-pub fn write_all(to: i32, s: &[u8]) -> bool {
-    let mut n: usize = 0;
-    let mut turns = u64::MAX;
-    while turns > 0 {
-        if n == s.len() {
-            return true;
-        }
-        let m = write_once(to, &s[n..]);
-        if m.failed {
-            return false;
-        }
-        if m.ended {
-            return false;
-        }
-        n += m.bytes;
-        turns -= 1;
+// Writes all of s, in one write if the system takes it so. A write that a signal interrupted is tried again.
+pub fn write_all<W: Write>(writer: &mut W, s: &[u8]) -> io::Result<()>
+    ensures { OnOk result (Appends (W.contents writer.old) (W.contents writer.new) s.now) }
+{
+    writer.write_all(s)
+}
+
+// The system's words for an error, without its number.
+pub fn reason(alloc: Global, error: &Error) -> Result<String, AllocError> {
+    let text = error.to_string(alloc)?;
+    match text.split_once(" (os error ") {
+        Some((words, _number)) => words.to_string(alloc),
+        None => text.to_string(alloc),
     }
-    false
 }
 
 // Puts a text into a longer one, from `at` on: where it ends.
@@ -135,9 +66,8 @@ pub fn add_number(line: &mut [u8], at: usize, n: u64, after: u8) -> usize
     requires { at + number_room ≤ length line.old }
     ensures { Added at number_room line.old result line.new }
 {
-    let mut digits = [0u8; 20];
-    let k = io::decimal(n, &mut digits);
-    let end = add_text(line, at, &digits[..k]);
+    let mut digits = itoa::Buffer::new();
+    let end = add_text(line, at, digits.format(n).as_bytes());
     line[end] = after;
     end + 1
 }

@@ -2,7 +2,6 @@
 -- Assumes nothing.
 use mathlib.Core.Path.{refl}
 use native.Mathlib.Omega.{arith}
-use borrow.Author.Tests.{not-true, not-false}
 use Rattle.compare.proofs.Runs.{form_room, left_stops, right_stops, lengths_differ, letters_differ, letters_agree}
 use Rattle.compare.proofs.compare_sides.Goals as goal
 
@@ -19,7 +18,7 @@ pub same-requires : goal.same-requires
 same-requires c = (omega (arith, form_room c.replay-l.ensures c.requires.left_body c.if-l-ne-ACCEPTED.false, c.replay-l.ensures.array), c.replay-l.ensures.array, c.replay-r.ensures.array)
 
 pub returns-then-not-same : goal.returns-then-not-same
-returns-then-not-same c = (letters_differ c.replay-l.ensures c.if-l-ne-ACCEPTED.false c.replay-r.ensures c.if-r-ne-ACCEPTED.false c.if-l-r.false c.same.ensures (not-true _ c.if-not-same.true), record { left_long = c.replay-l.ensures.array; right_long = c.replay-r.ensures.array })
+returns-then-not-same c = (letters_differ c.replay-l.ensures c.if-l-ne-ACCEPTED.false c.replay-r.ensures c.if-r-ne-ACCEPTED.false c.if-l-r.false c.same.ensures c.if-not-same.true, record { left_long = c.replay-l.ensures.array; right_long = c.replay-r.ensures.array })
 
 pub returns : goal.returns
-returns c = (letters_agree c.replay-l.ensures c.if-l-ne-ACCEPTED.false c.replay-r.ensures c.if-r-ne-ACCEPTED.false c.if-l-r.false c.same.ensures (not-false _ c.if-not-same.false), record { left_long = c.replay-l.ensures.array; right_long = c.replay-r.ensures.array })
+returns c = (letters_agree c.replay-l.ensures c.if-l-ne-ACCEPTED.false c.replay-r.ensures c.if-r-ne-ACCEPTED.false c.if-l-r.false c.same.ensures c.if-not-same.false, record { left_long = c.replay-l.ensures.array; right_long = c.replay-r.ensures.array })

@@ -1,10 +1,10 @@
 -- `steps::abstractor_after` meets its contract: the loop is `Passing` of Tails.antt.
 -- Assumes nothing.
-use Prim.Native.Nat.{◌-◌}
-use mathlib.Core.Logic.{inl, inr, ⊎_elim}
+use mathlib.Core.Logic.{inl, inr}
 use native.Mathlib.Omega.{arith}
 use Rattle.steps.proofs.Tails.{passing_start, passing_bounds, passed_all, passed_partner, pass_item}
 use Rattle.steps.proofs.abstractor_after.Goals as goal
+use Rattle.steps.proofs.abstractor_after.Goals.{then-symbol-eq-APPLICATOR, else-symbol-eq-APPLICATOR+else-unmatched-eq0}
 
 pub offset_bounds-s-q : goal.offset_bounds-s-q
 offset_bounds-s-q c = omega (arith, passing_bounds c.requires passing_start)
@@ -38,7 +38,7 @@ offset_bounds-s-q-in-loop-symbol c = let w = c.loop-symbol.invariant in let g = 
   arith,
   passing_bounds g w.0,
   passing_bounds g (pass_item g w.0 w.1 c.loop-symbol-test.true
-      (⊎_elim (λ j. inl (j.0.taken, j.1)) (λ j. inr (j.0.left, j.1.left, j.2)) c.if-symbol-eq-APPLICATOR.branch) c.end_of-q.ensures),
+      (elim c.if-symbol-eq-APPLICATOR.branch [ then-symbol-eq-APPLICATOR b ↦ inl (b.if-symbol-eq-APPLICATOR.true, b.unmatched-is) | else-symbol-eq-APPLICATOR+else-unmatched-eq0 b ↦ inr (b.if-symbol-eq-APPLICATOR.false, b.if-unmatched-eq0.false, b.unmatched-is) ]) c.end_of-q.ensures),
 )
 
 pub bounds-s-q-in-loop-symbol : goal.bounds-s-q-in-loop-symbol
@@ -46,7 +46,7 @@ bounds-s-q-in-loop-symbol c = let w = c.loop-symbol.invariant in let g = c.requi
   arith,
   passing_bounds g w.0,
   passing_bounds g (pass_item g w.0 w.1 c.loop-symbol-test.true
-      (⊎_elim (λ j. inl (j.0.taken, j.1)) (λ j. inr (j.0.left, j.1.left, j.2)) c.if-symbol-eq-APPLICATOR.branch) c.end_of-q.ensures),
+      (elim c.if-symbol-eq-APPLICATOR.branch [ then-symbol-eq-APPLICATOR b ↦ inl (b.if-symbol-eq-APPLICATOR.true, b.unmatched-is) | else-symbol-eq-APPLICATOR+else-unmatched-eq0 b ↦ inr (b.if-symbol-eq-APPLICATOR.false, b.if-unmatched-eq0.false, b.unmatched-is) ]) c.end_of-q.ensures),
 )
 
 pub loop-symbol-smaller : goal.loop-symbol-smaller
@@ -54,7 +54,7 @@ loop-symbol-smaller c = omega (arith, passing_bounds c.requires c.loop-symbol.in
 
 pub loop-symbol-preserved : goal.loop-symbol-preserved
 loop-symbol-preserved c = let w = c.loop-symbol.invariant in
-    (pass_item c.requires w.0 w.1 c.loop-symbol-test.true (⊎_elim (λ j. inl (j.0.taken, j.1)) (λ j. inr (j.0.left, j.1.left, j.2)) c.if-symbol-eq-APPLICATOR.branch) c.end_of-q.ensures, c.symbol_of-symbol-in-loop-symbol.ensures.0)
+    (pass_item c.requires w.0 w.1 c.loop-symbol-test.true (elim c.if-symbol-eq-APPLICATOR.branch [ then-symbol-eq-APPLICATOR b ↦ inl (b.if-symbol-eq-APPLICATOR.true, b.unmatched-is) | else-symbol-eq-APPLICATOR+else-unmatched-eq0 b ↦ inr (b.if-symbol-eq-APPLICATOR.false, b.if-unmatched-eq0.false, b.unmatched-is) ]) c.end_of-q.ensures, c.symbol_of-symbol-in-loop-symbol.ensures.0)
 
 pub returns : goal.returns
 returns c = let w = c.loop-symbol.invariant in passed_all c.requires w.0 w.1 (omega (arith, c.loop-symbol-test.false))

@@ -1,6 +1,5 @@
 -- `steps::copy_start` meets its contract: each turn stores the first letter that is left.
 -- Assumes nothing.
-use Prim.Native.Nat.{◌-◌}
 use native.Mathlib.Omega.{arith}
 use Rattle.parts.proofs.Copying.{copying_start, turn_between, copying_end}
 use Rattle.steps.proofs.copy_start.Goals as goal

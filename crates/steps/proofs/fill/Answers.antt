@@ -1,6 +1,5 @@
 -- `steps::fill` meets its contract: the loop is `Filling` of Writing.antt.
 -- Assumes nothing.
-use Prim.Native.Nat.{◌-◌}
 use native.Mathlib.Omega.{arith}
 use Rattle.steps.proofs.Couples.{places}
 use Rattle.steps.proofs.Writing.{filling_start, letter_fillable, filling_next, filling_end}

@@ -1,10 +1,8 @@
 -- `steps::lift_to` meets its contract: the loop is `Storing` of Mapping.antt in bodies.
 -- Assumes nothing.
-use Prim.Native.Nat.{◌-◌}
 use native.Mathlib.Omega.{arith}
 use mathlib.Core.Path.{refl, ◌∙◌}
 use Rattle.letters.proofs.Letters.{lies_end}
-use Rattle.bodies.specs.Moving.{lifted_letter}
 use Rattle.bodies.proofs.Mapping.{storing_next, storing_end}
 use Rattle.bodies.proofs.Lifting.{liftable_letter, lifts}
 use Rattle.steps.proofs.lift_to.Goals as goal

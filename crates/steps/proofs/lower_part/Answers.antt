@@ -1,11 +1,9 @@
 -- `steps::lower_part` meets its contract: the loop is `Mapping` of Mapping.antt, each letter stored in its own place.
 -- Assumes nothing.
-use Prim.Native.Nat.{◌-◌}
 use native.Mathlib.Omega.{arith}
 use mathlib.Core.Path.{ap}
 use mathlib.Core.Logic.{inl}
 use Rattle.letters.specs.Letters.{depth_of}
-use Rattle.steps.specs.Lowering.{lowered_letter}
 use Rattle.bodies.proofs.Mapping.{storing_end, mapping_start, next_letter, mapping_next}
 use Rattle.steps.proofs.lower_part.Goals as goal
 

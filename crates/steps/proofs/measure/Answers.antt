@@ -1,6 +1,5 @@
 -- `steps::measure` meets its contract: the loop is `Counting` of Lowering.antt and `Deepening` of Writing.antt.
 -- Assumes nothing.
-use Prim.Native.Nat.{◌-◌}
 use native.Mathlib.Omega.{arith}
 use Rattle.steps.proofs.Lowering.{counting_next}
 use Rattle.steps.proofs.Writing.{deepening_next, measured}

@@ -1,8 +1,8 @@
 -- `streams::add_text` meets its contract.
 -- Assumes nothing.
 use native.Mathlib.Omega.{arith}
-use Rattle.io.proofs.Counting.{prefix_len_of_le}
 use borrow.Author.Rules.{rules}
+use Rattle.streams.proofs.Counting.{prefix_len_of_le}
 use Rattle.streams.proofs.add_text.Goals as goal
 
 pub returns : goal.returns

@@ -1,17 +1,12 @@
--- `streams::read_input` is safe and ends: the turns left fall. What was read stands at the buffer's start.
+-- `streams::read_input` meets its contract: each turn reads on where the one before stopped.
 -- Assumes nothing.
-use borrow.Author.Rules.{rules}
-use Rattle.io.proofs.Counting.{prefix_len_of_le}
+use Rattle.std.proofs.Common.{rules}
+use Rattle.streams.proofs.Reading.{read_more, read_nothing}
+use Rattle.streams.proofs.read_input.Goals.{in-Ok, in-Err+else-ne}
 use Rattle.streams.proofs.read_input.Goals as goal
 
-pub returns-then-n-s : goal.returns-then-n-s
-returns-then-n-s c = (prefix_len_of_le _ _ (search rules), search rules)
-
-pub returns-then-m : goal.returns-then-m
-returns-then-m c = (prefix_len_of_le _ _ (search rules), search rules)
-
-pub returns-then-m-2 : goal.returns-then-m-2
-returns-then-m-2 c = (prefix_len_of_le _ _ (search rules), search rules)
-
-pub returns : goal.returns
-returns c = (prefix_len_of_le _ _ (search rules), search rules)
+pub loop-turn-preserved : goal.loop-turn-preserved
+loop-turn-preserved g c = elim c.match-read.branch [
+  | in-Ok w ↦ (search rules, search rules, rw w.n-is (read_more _ _ _ _ _ _ _ _ c.loop-turn.invariant.1 w.in-Ok.ensures.bound.0 c.loop-turn.invariant.2 w.in-Ok.ensures.bytes.0))
+  | in-Err+else-ne w ↦ (search rules, search rules, rw w.n-is (read_nothing _ _ _ _ _ _ _ c.loop-turn.invariant.1 c.loop-turn.invariant.2 w.in-Err.ensures.bytes))
+]
