@@ -1,13 +1,12 @@
 -- The groups that are left are known by what they hold: where they stand, and so the place of the first.
 -- Assumes nothing.
-use Prim.Native.Nat.{ℕ, zero, suc, ◌+◌, ◌*◌, ◌-◌, ◌/◌, ◌≤◌, ◌<◌}
-use mathlib.Core.Path.{◌≡◌, refl, ap, ap₂, sym, ◌∙◌}
-use mathlib.Core.List.{List, [], ◌∷◌, ◌++◌, map, tail-eq_of_cons-eq}
+use Prim.Native.Nat.{ℕ, zero, suc, ◌+◌, ◌*◌, ◌-◌, ◌/◌, ◌≤◌}
+use mathlib.Core.Path.{◌≡◌, refl, ap, sym, ◌∙◌}
+use mathlib.Core.List.{List, [], ◌∷◌, ◌++◌, tail-eq_of_cons-eq}
 use native.Mathlib.Omega.{arith}
-use lib.ListN.{length, drop, length-append, length-map}
-use Rattle.calculus.specs.Steps.{Step}
+use lib.ListN.{length, drop, length-map}
 use Rattle.calculus.specs.Rules.{Group}
-use Rattle.fields.specs.Fields.{GroupAt, Groups, done, more, group_at, span_at, body_end, steps_from, read_steps, word, GroupHere, Whole}
+use Rattle.fields.specs.Fields.{GroupAt, Groups, done, more, group_at, body_end, steps_from, read_steps, Whole}
 use Rattle.files.specs.Check.{groups_of}
 
 length_steps : (n : ℕ) (s : List ℕ) (at : ℕ) → length (steps_from n s at) ≡ n
@@ -42,8 +41,8 @@ same_left {s} {a} {b} {gs} {hs} c d q =
     (e, groups_one c (rw (← e) at d) (sym (length-map gs (λ (g : GroupAt). g.group)) ∙ ap length q ∙ length-map hs (λ (g : GroupAt). g.group)))
 
 -- after n groups
-pub groups_drop : {s : List ℕ} {at : ℕ} {gs : List GroupAt} (n : ℕ) → Groups s at gs → n ≤ length gs → (a : ℕ) × Groups s a (drop n gs)
-groups_drop {at = at} zero d h = (at, d)
+pub groups_drop : {s : List ℕ} (n : ℕ) {at : ℕ} {gs : List GroupAt} → Groups s at gs → n ≤ length gs → (a : ℕ) × Groups s a (drop n gs)
+groups_drop zero {at} d h = (at, d)
 groups_drop (suc n) (done e) h = let z : ⊥ = omega arith in absurd z
 groups_drop (suc n) (more e d) h = groups_drop n d (omega arith)
 

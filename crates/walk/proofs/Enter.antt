@@ -9,7 +9,7 @@ use native.Mathlib.Omega.{arith}
 use native.Mathlib.Numerals.{add-one}
 use lib.ListN.{length, get_or, length-set}
 use Rattle.calculus.specs.Terms.{Term, abs, size, lift, Closed, closed_abs}
-use Rattle.calculus.specs.Frames.{Entry, single, pair, domain, Frame, ◌▹◌, depth}
+use Rattle.calculus.specs.Frames.{Entry, single, pair, domain, Frame, ◌▹◌}
 use Rattle.calculus.specs.Walks.{states_of}
 use Rattle.calculus.proofs.Lift.{lift_zero, size_lift}
 use Rattle.code.specs.Limits.{longest_file, longest_state, most_abstractors}

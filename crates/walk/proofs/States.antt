@@ -12,7 +12,6 @@ use lib.Seq.{get_or-set_same}
 use borrow.Author.Tests.{le-leb, lt-leb, leb-true}
 use Rattle.calculus.specs.Terms.{Term, size}
 use Rattle.calculus.specs.Frames.{Entry, domain, Frame, ◌▹◌, entry_at, ClosedFrame, closed_empty, closed_entry, closed_single, closed_pair}
-use Rattle.calculus.specs.Rules.{own}
 use Rattle.calculus.proofs.Lift.{lo, hi, cmp, size_lift}
 use Rattle.code.specs.Limits.{longest_term, longest_state, most_abstractors}
 use Rattle.code.specs.Claims.{Stands}

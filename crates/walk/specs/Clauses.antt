@@ -1,7 +1,7 @@
 -- The contracts of the walk's functions.
 -- Assumes nothing.
-use Rattle.std.specs.Prelude.{ℕ, suc, ◌+◌, ◌-◌, ◌*◌, ◌≤◌, ◌<◌, max, ◌≡◌, Bool, true, false, cond, List, [], ◌∷◌, map, leb, eqb, length, get_or}
-use Rattle.calculus.specs.Terms.{Term, app, abs, size, Closed}
+use Rattle.std.specs.Prelude.{ℕ, suc, ◌+◌, ◌-◌, ◌*◌, ◌≤◌, ◌<◌, max, ◌≡◌, Bool, true, false, cond, List, map, leb, eqb, length, get_or}
+use Rattle.calculus.specs.Terms.{Term, size, Closed}
 use Rattle.calculus.specs.Frames.{Frame}
 use Rattle.calculus.specs.Walks.{states_of}
 use Rattle.code.specs.Limits.{longest_file, longest_term, longest_state, most_abstractors}

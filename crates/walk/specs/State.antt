@@ -1,16 +1,15 @@
 -- The states of the walk in bytes and numbers.
 -- Assumes nothing.
 use Rattle.std.specs.Prelude.{ℕ, suc, ◌+◌, ◌*◌, ◌≤◌, ◌<◌, max, ◌≡◌, Bool, true, false, cond, List, [], ◌∷◌, map, length, get_or, drop}
-use Rattle.calculus.specs.Terms.{Term, var, size, lift, Closed}
+use Rattle.calculus.specs.Terms.{Term, var, lift, Closed}
 use Rattle.calculus.specs.Frames.{Entry, single, pair, domain, Frame, ε, ◌▹◌, depth}
 use Rattle.calculus.specs.Rules.{State, own, copied, Question, Next, asks, stops, one_pass_next}
 use Rattle.code.specs.Limits.{longest_file, longest_term, longest_state, most_abstractors}
 use Rattle.code.specs.Claims.{Stands}
-use Rattle.code.specs.Scope.{scope}
 use Rattle.fields.specs.Fields.{GroupAt, Groups}
 use Rattle.frames.specs.Stored.{Stored}
 use Rattle.frames.specs.declared.FrameRecord.{FrameRecord}
-use Rattle.texts.specs.Texts.{Sized, Origin}
+use Rattle.texts.specs.Texts.{Origin}
 use Rattle.verdict.specs.Bounds.{waiting_size, waiting_scope, state_fits}
 use Rattle.verdict.specs.Verdict.{Item, state_at, placed, Progress}
 use Rattle.waiting.specs.Waiting.{Waiting, terms_of, places, Part, Queue, low_of, KeptSlot}

@@ -1,6 +1,5 @@
 -- `explaining::first_difference` meets its contract.
 -- Assumes nothing.
-use Prim.Native.Nat.{◌-◌}
 use native.Mathlib.Omega.{arith}
 use Rattle.explaining.proofs.Differences.{ends_here, goes_on}
 use Rattle.explaining.proofs.first_difference.Goals as goal

@@ -1,6 +1,6 @@
 -- `walk::inside` and `walk::term`: what falls, and what stays in the loop.
 -- Assumes nothing.
-use Rattle.std.proofs.Common.{ℕ, ◌+◌}
+use Rattle.std.proofs.Common.{◌+◌}
 use Rattle.compare.specs.Sides.{Buffers}
 use Rattle.walk.specs.State.{text_of, arrays_of}
 use Rattle.walk.specs.Clauses.{Known, DepthsKnown}
