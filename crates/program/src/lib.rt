@@ -97,22 +97,38 @@ fn add_answer(
 
 // `bijterne`: checks a file and writes the four numbers of its answer. The exit status is 0 if they were written, whatever they say.
 pub fn bijterne_run<R: Input + Print + Eprint + AllocGlobal>(rt: &R) -> ExitCode {
-    status(rt, "bijterne", answer_file(&mut rt.reader(), &mut io::writer(rt)))
+    status(
+        rt,
+        "bijterne",
+        answer_file(&mut rt.reader(), &mut io::writer(rt)),
+    )
 }
 
 // `explain`: checks a file and writes the four numbers of its answer, and what they say of it. The exit status is as for `bijterne`.
 pub fn explain_run<R: Input + Print + Eprint + AllocGlobal>(rt: &R) -> ExitCode {
-    status(rt, "explain", explain_file(&mut rt.reader(), &mut io::writer(rt)))
+    status(
+        rt,
+        "explain",
+        explain_file(&mut rt.reader(), &mut io::writer(rt)),
+    )
 }
 
 // `shelf`: checks a set and writes the five numbers of its answer. The exit status is as for `bijterne`.
 pub fn shelf_run<R: Input + Print + Eprint + AllocGlobal>(rt: &R) -> ExitCode {
-    status(rt, "shelf", answer_set(&mut rt.reader(), &mut io::writer(rt)))
+    status(
+        rt,
+        "shelf",
+        answer_set(&mut rt.reader(), &mut io::writer(rt)),
+    )
 }
 
 // `page`: writes the page of a bare term. At a refusal it writes number and place to standard error, and the exit status is 1.
 pub fn page_run<R: Input + Print + Eprint + AllocGlobal>(rt: &R) -> ExitCode {
-    status(rt, "page", print_term(&mut rt.reader(), &mut io::writer(rt)))
+    status(
+        rt,
+        "page",
+        print_term(&mut rt.reader(), &mut io::writer(rt)),
+    )
 }
 
 // `counts`: writes a line for each length from 0 to 7: the length, and how many strings of it the examining call accepts, refuses with 3

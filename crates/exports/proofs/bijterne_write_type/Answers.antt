@@ -4,7 +4,7 @@ use Rattle.exports.proofs.Giving.{given_none, given_type}
 use Rattle.exports.proofs.bijterne_write_type.Goals as goal
 
 pub returns-in-Nothing : goal.returns-in-Nothing
-returns-in-Nothing c = given_none c.write_type-a.ensures c.enum_told-1.given.1
+returns-in-Nothing c = given_none c.write_type-a.ensures c.in-Nothing.is
 
 pub returns-in-Answer : goal.returns-in-Answer
-returns-in-Answer c = given_type c.write_type-a.ensures c.a-1.given.1
+returns-in-Answer c = given_type c.write_type-a.ensures c.in-Answer.is

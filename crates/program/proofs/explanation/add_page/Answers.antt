@@ -11,4 +11,4 @@ pub write_page-requires : goal.write_page-requires
 write_page-requires c = page_room c.args.at c.args.text.now c.args.s.now c.if-n-eq0.false c.requires.1
 
 pub returns : goal.returns
-returns c = added_part _ _ _ _ c.write_page.new.1.0 (omega arith) (omega (arith, c.requires)) c.write_page.ensures.1
+returns c = added_part _ _ _ _ c.write_page.new.out (omega arith) (omega (arith, c.requires)) c.write_page.ensures.1
