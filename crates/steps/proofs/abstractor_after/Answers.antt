@@ -2,9 +2,9 @@
 -- Assumes nothing.
 use mathlib.Core.Logic.{inl, inr}
 use native.Mathlib.Omega.{arith}
-use Rattle.steps.proofs.Tails.{Passing, passing_start, passing_bounds, passed_all, passed_partner, pass_item}
+use Rattle.steps.proofs.Tails.{passing_start, passing_bounds, passed_all, passed_partner, pass_item}
 use Rattle.steps.proofs.abstractor_after.Goals as goal
-use Rattle.steps.proofs.abstractor_after.Goals.{After-end_of-q, then-symbol-eq-APPLICATOR, else-symbol-eq-APPLICATOR+else-unmatched-eq0}
+use Rattle.steps.proofs.abstractor_after.Goals.{then-symbol-eq-APPLICATOR, else-symbol-eq-APPLICATOR+else-unmatched-eq0}
 
 pub offset_bounds-s-q : goal.offset_bounds-s-q
 offset_bounds-s-q c = omega (arith, passing_bounds c.requires passing_start)
@@ -33,26 +33,21 @@ overflow_add-h c = omega (arith, passing_bounds c.requires c.loop-symbol.invaria
 pub end_of-q-requires : goal.end_of-q-requires
 end_of-q-requires c = let b = passing_bounds c.requires c.loop-symbol.invariant.0 in (b.3, b.2, omega arith)
 
--- The wagon at q is passed, whichever it is.
-passed_item : (c : After-end_of-q) → Passing c.args.s.now c.args.n c.args.m c.args.h c.end_of-q.result c.if-symbol-eq-APPLICATOR.unmatched
-passed_item c = let w = c.loop-symbol.invariant in
-    pass_item c.requires w.0 w.1 c.loop-symbol-test.true
-    (elim c.if-symbol-eq-APPLICATOR.branch [
-      | then-symbol-eq-APPLICATOR b ↦ inl (b.if-symbol-eq-APPLICATOR.true, b.unmatched-is)
-      | else-symbol-eq-APPLICATOR+else-unmatched-eq0 b ↦ inr (b.if-symbol-eq-APPLICATOR.false, b.if-unmatched-eq0.false, b.unmatched-is)
-    ]) c.end_of-q.ensures
-
+-- The wagon at q is passed, whichever it is: three times, each with a name of its own, which a must-fail edit goes by.
 pub offset_bounds-s-q-in-loop-symbol : goal.offset_bounds-s-q-in-loop-symbol
-offset_bounds-s-q-in-loop-symbol c = omega (arith, passing_bounds c.requires (passed_item (goal.at.offset_bounds-s-q-in-loop-symbol c).After-end_of-q))
+offset_bounds-s-q-in-loop-symbol c = let w = c.loop-symbol.invariant in
+    omega (arith, passing_bounds c.requires (pass_item c.requires w.0 w.1 c.loop-symbol-test.true (elim c.if-symbol-eq-APPLICATOR.branch [ then-symbol-eq-APPLICATOR a ↦ inl (a.if-symbol-eq-APPLICATOR.true, a.unmatched-is) | else-symbol-eq-APPLICATOR+else-unmatched-eq0 a ↦ inr (a.if-symbol-eq-APPLICATOR.false, a.if-unmatched-eq0.false, a.unmatched-is) ]) c.end_of-q.ensures))
 
 pub bounds-s-q-in-loop-symbol : goal.bounds-s-q-in-loop-symbol
-bounds-s-q-in-loop-symbol c = omega (arith, passing_bounds c.requires (passed_item (goal.at.bounds-s-q-in-loop-symbol c).After-end_of-q))
+bounds-s-q-in-loop-symbol c = let w = c.loop-symbol.invariant in
+    omega (arith, passing_bounds c.requires (pass_item c.requires w.0 w.1 c.loop-symbol-test.true (elim c.if-symbol-eq-APPLICATOR.branch [ then-symbol-eq-APPLICATOR b ↦ inl (b.if-symbol-eq-APPLICATOR.true, b.unmatched-is) | else-symbol-eq-APPLICATOR+else-unmatched-eq0 b ↦ inr (b.if-symbol-eq-APPLICATOR.false, b.if-unmatched-eq0.false, b.unmatched-is) ]) c.end_of-q.ensures))
 
 pub loop-symbol-smaller : goal.loop-symbol-smaller
 loop-symbol-smaller c = omega (arith, passing_bounds c.requires c.loop-symbol.invariant.0, c.end_of-q.ensures.after, c.end_of-q.ensures.inside)
 
 pub loop-symbol-preserved : goal.loop-symbol-preserved
-loop-symbol-preserved c = (passed_item (goal.at.loop-symbol-preserved c).After-end_of-q, c.symbol_of-symbol-in-loop-symbol.ensures.0)
+loop-symbol-preserved c = let w = c.loop-symbol.invariant in
+    (pass_item c.requires w.0 w.1 c.loop-symbol-test.true (elim c.if-symbol-eq-APPLICATOR.branch [ then-symbol-eq-APPLICATOR d ↦ inl (d.if-symbol-eq-APPLICATOR.true, d.unmatched-is) | else-symbol-eq-APPLICATOR+else-unmatched-eq0 d ↦ inr (d.if-symbol-eq-APPLICATOR.false, d.if-unmatched-eq0.false, d.unmatched-is) ]) c.end_of-q.ensures, c.symbol_of-symbol-in-loop-symbol.ensures.0)
 
 pub returns : goal.returns
 returns c = let w = c.loop-symbol.invariant in passed_all c.requires w.0 w.1 (omega (arith, c.loop-symbol-test.false))
