@@ -43,8 +43,7 @@ def functions(path):
 def snake(word):
     word = re.sub(r"(?<=\w)-(?=\w)", "_", word)
     if word[:1].islower():
-        word = re.sub(r"(?<=[a-z0-9])([A-Z])", lambda m: "_" + m.group(1).lower(), word)
-        word = re.sub(r"_([A-Z])(?=_|$)", lambda m: "_" + m.group(1).lower(), word)
+        word = re.sub(r"(?<=[a-z0-9])([A-Z])|(?<=[A-Z])([A-Z])(?=[a-z])", lambda m: "_" + m.group().lower(), word)
     return word
 
 

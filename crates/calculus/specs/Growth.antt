@@ -60,7 +60,7 @@ NewClosed (kept e g) = NewClosed g
 NewClosed (paired {R' = R'} K U g) = Closed (depth R') K × NewClosed g
 
 -- BY THEMSELVES
--- Such a growth, where what stands after the frame is changed by f.
+-- A growth where what stands after the frame is changed by f.
 pub record GrownBy (f : Term → Term) (R R' : Frame) : Type 0 where
   pub renaming : ℕ → ℕ
   pub grown : Grown renaming R R'

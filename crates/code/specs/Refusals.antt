@@ -66,8 +66,8 @@ abbrev pub too_long_to_count : ℕ
 too_long_to_count = 15
 
 -- of a set: no file, a field cut short, or a tag other than 5 (request (e))
-abbrev pub not_aSet : ℕ
-not_aSet = 16
+abbrev pub not_a_set : ℕ
+not_a_set = 16
 
 -- of what stops no check
 abbrev pub never : ℕ

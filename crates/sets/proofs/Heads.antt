@@ -17,26 +17,26 @@ use Rattle.fields.specs.Fields.{word, body_end, body_at, field_at, Whole, Sequen
 use Rattle.fields.specs.Files.{write_field}
 use Rattle.fields.proofs.Laws.{whole_ends, Ended, ended, Found, done, stop, more, found, found_only}
 use Rattle.fields.proofs.Written.{written, field_only}
-use Rattle.sets.specs.Sets.{longest_set, or_not_aSet, file_end, files_from, read_set}
+use Rattle.sets.specs.Sets.{longest_set, or_not_a_set, file_end, files_from, read_set}
 use Rattle.sets.specs.Claims.{write_set, HoldsFiles, NoField}
 
 -- ONE FIELD
 file_ends : (s : List ℕ) (at : ℕ) → Whole 5 1 s at → file_end s at ≡ End (body_end s at)
-unfolding file_end or_not_aSet
-file_ends s at w = ap (or_not_aSet at) (whole_ends 5 1 s at w)
+unfolding file_end or_not_a_set
+file_ends s at w = ap (or_not_a_set at) (whole_ends 5 1 s at w)
 
-pub file_found : {f : Field} (s : List ℕ) (at : ℕ) → field_at 5 1 s at ≡ f → file_end s at ≡ or_not_aSet at f
+pub file_found : {f : Field} (s : List ℕ) (at : ℕ) → field_at 5 1 s at ≡ f → file_end s at ≡ or_not_a_set at f
 unfolding file_end
-file_found s at e = ap (or_not_aSet at) e
+file_found s at e = ap (or_not_a_set at) e
 
 pub end_not_fault : {A : Type 0} {e n p : ℕ} → End e ≡ Fault n p → A
 end_not_fault q = let z : ◌≡◌ {A = ℕ} 0 1 = cc in let y : ⊥ = omega arith in absurd y
 
 pub file_ended : (s : List ℕ) (at : ℕ) {m : ℕ} → file_end s at ≡ End m → Ended 5 1 s at m
-unfolding file_end or_not_aSet
+unfolding file_end or_not_a_set
 file_ended s at {m} e = go (field_at 5 1 s at) refl e
   where
-    go : (f : Field) → field_at 5 1 s at ≡ f → or_not_aSet at f ≡ End m → Ended 5 1 s at m
+    go : (f : Field) → field_at 5 1 s at ≡ f → or_not_a_set at f ≡ End m → Ended 5 1 s at m
     go (Fault n p) q e = end_not_fault (sym e)
     go (End k) q e = ended 5 1 s at (q ∙ e)
 
@@ -44,10 +44,10 @@ file_longer : (s : List ℕ) (at m : ℕ) → file_end s at ≡ End m → at < m
 file_longer s at m e = omega (arith, (file_ended s at e).is_end)
 
 file_fault : (s : List ℕ) (at : ℕ) {n p : ℕ} → file_end s at ≡ Fault n p → (n ≡ 16) × (p ≡ at)
-unfolding file_end or_not_aSet
+unfolding file_end or_not_a_set
 file_fault s at {n} {p} e = go (field_at 5 1 s at) e
   where
-    go : (f : Field) → or_not_aSet at f ≡ Fault n p → (n ≡ 16) × (p ≡ at)
+    go : (f : Field) → or_not_a_set at f ≡ Fault n p → (n ≡ 16) × (p ≡ at)
     go (Fault m q) e = (cc, cc)
     go (End k) e = end_not_fault e
 

@@ -14,7 +14,7 @@ use Rattle.fields.proofs.Laws.{Found, done, stop, more}
 use Rattle.files.specs.Check.{check_file}
 use Rattle.checker.specs.Answer.{CheckedAs}
 use Rattle.checker.specs.declared.CheckAnswer.{CheckAnswer}
-use Rattle.sets.specs.Sets.{longest_set, or_not_aSet, file_end, files_from, read_set, refused_set, accepted_set, check_files, check_from, check_set}
+use Rattle.sets.specs.Sets.{longest_set, or_not_a_set, file_end, files_from, read_set, refused_set, accepted_set, check_files, check_from, check_set}
 use Rattle.sets.specs.Clauses.{heads_of, WholeFrom}
 use Rattle.sets.proofs.Heads.{end_not_fault, file_found, file_ended, files_found, files_are, body_length}
 
@@ -33,11 +33,11 @@ module _ (s : List ℕ) where
   starts h e = rw (le-ltb _ _ h, ne_eqb _ _ e)
 
   pub head_faulty : {at n p : ℕ} → at < length s → field_at 5 1 s at ≡ Fault n p → heads_of (length s) (files_from s at) ≡ Fault 16 at
-  unfolding heads_of or_not_aSet
+  unfolding heads_of or_not_a_set
   head_faulty {at} h e = ap (heads_of (length s)) (files_are s (stop {at = at} h (file_found s at e)))
 
   next_file : {at m : ℕ} → at < length s → field_at 5 1 s at ≡ End m → files_from s at ≡ first_then (body_at s at) (files_from s m)
-  unfolding or_not_aSet
+  unfolding or_not_a_set
   next_file {at} {m} h e = files_are s (more {at = at} h (file_found s at e) (files_found s m) refl)
 
   pub head_whole : {at m : ℕ} → at < length s → field_at 5 1 s at ≡ End m → heads_of (length s) (files_from s m) ≡ heads_of (length s) (files_from s at)

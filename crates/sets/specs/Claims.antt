@@ -2,7 +2,7 @@
 -- Assumes nothing.
 use Rattle.std.specs.Prelude.{ℕ, ◌+◌, ◌≤◌, ◌<◌, ◌≡◌, ◌↔◌, List, [], ◌∷◌, ◌++◌, length, get_or}
 use Rattle.calculus.specs.Terms.{applicators}
-use Rattle.code.specs.Refusals.{accepted, too_long, not_aSet}
+use Rattle.code.specs.Refusals.{accepted, too_long, not_a_set}
 use Rattle.code.specs.Code.{Bytes}
 use Rattle.fields.specs.Files.{write_field, InBytes}
 use Rattle.files.specs.Check.{check_file}
@@ -56,7 +56,7 @@ pub record NoField (fs : List (List ℕ)) (rest : List ℕ) : Type 0 where
 pub data SetRefused (s : List ℕ) : SetAnswer → Type 0 where
   over_long : longest_set < length s → SetRefused s (refused_set too_long 0)
   not_a_set : (fs : List (List ℕ)) (rest : List ℕ) → length s ≤ longest_set → s ≡ write_set fs ++ rest → NoField fs rest
-      → SetRefused s (refused_set not_aSet (length (write_set fs)))
+      → SetRefused s (refused_set not_a_set (length (write_set fs)))
   -- the first file that is refused, all before it accepted, with its own answer and all that this says of a file
   one_file : (fs : List (List ℕ)) (i : ℕ) → HoldsFiles s fs → i < length fs → ((j : ℕ) → j < i → FileAccepted fs j) → (FileAccepted fs i → ⊥)
       → FileRefused fs i → SetRefused s (refused_file i (check_file (get_or fs i [])))

@@ -1,7 +1,7 @@
 -- Checking a set of files (document 02, (e)). A set is a run of fields with tag 5, each holding a whole file.
 -- Assumes nothing.
 use Rattle.std.specs.Prelude.{ℕ, ◌+◌, cond, List, [], ◌∷◌, length, ltb, eqb}
-use Rattle.code.specs.Refusals.{accepted, too_long, not_aSet}
+use Rattle.code.specs.Refusals.{accepted, too_long, not_a_set}
 use Rattle.fields.specs.declared.Field.{Field}
 use Rattle.fields.specs.declared.Field.TheVariants.{Fault, End}
 use Rattle.fields.specs.Fields.{field_at, body_at, Sequence, broken, sequence, sequence_from}
@@ -16,12 +16,12 @@ abbrev pub file_tag : ℕ
 file_tag = 5
 
 -- The field at a place: its end; or 16, at its head, for a field cut short or another tag.
-unfoldable pub or_not_aSet : ℕ → Field → Field
-or_not_aSet at (Fault n p) = Fault not_aSet at
-or_not_aSet at (End e) = End e
+unfoldable pub or_not_a_set : ℕ → Field → Field
+or_not_a_set at (Fault n p) = Fault not_a_set at
+or_not_a_set at (End e) = End e
 
 unfoldable pub file_end : List ℕ → ℕ → Field
-file_end s at = or_not_aSet at (field_at file_tag 1 s at)
+file_end s at = or_not_a_set at (field_at file_tag 1 s at)
 
 -- The files from a place on.
 abbrev pub files_from : List ℕ → ℕ → Sequence (List ℕ)
@@ -29,8 +29,8 @@ files_from s at = sequence_from (file_end s) (body_at s) (length s) (length s) a
 
 -- The set: its length, 16 if it is empty, then all heads, before any check.
 unfoldable pub read_set : List ℕ → Sequence (List ℕ)
-unfolding or_not_aSet file_end sequence_from
-read_set s = cond (ltb longest_set (length s)) (broken too_long 0) (cond (eqb (length s) 0) (broken not_aSet 0) (files_from s 0))
+unfolding or_not_a_set file_end sequence_from
+read_set s = cond (ltb longest_set (length s)) (broken too_long 0) (cond (eqb (length s) 0) (broken not_a_set 0) (files_from s 0))
 
 -- The refused file's number and its own answer.
 abbrev pub refused_file : ℕ → CheckAnswer → SetAnswer

@@ -2,3 +2,4 @@
 -- Assumes nothing.
 pub mod Counting
 pub mod Reading
+mod Writing

@@ -36,11 +36,26 @@ pub fn read_input<R: Read>(reader: &mut R, s: &mut [u8]) -> io::Result<usize>
     Err(Error::other("too many reads"))
 }
 
-// Writes all of s, in one write if the system takes it so. A write that a signal interrupted is tried again.
+// Writes all of s, in one write if the system takes it so. A write that a signal interrupted is tried again; this loop counts its turns too.
 pub fn write_all<W: Write>(writer: &mut W, s: &[u8]) -> io::Result<()>
     ensures { OnOk result (Appends (W.contents writer.old) (W.contents writer.new) s.now) }
 {
-    writer.write_all(s)
+    let mut n: usize = 0;
+    for _turn in 0..u64::MAX {
+        if n >= s.len() {
+            return Ok(());
+        }
+        match writer.write(&s[n..]) {
+            Ok(0) => return Err(Error::from(ErrorKind::WriteZero)),
+            Ok(moved) => n += moved,
+            Err(error) => {
+                if error.kind() != ErrorKind::Interrupted {
+                    return Err(error);
+                }
+            }
+        }
+    }
+    Err(Error::other("too many writes"))
 }
 
 // The system's words for an error, without its number.

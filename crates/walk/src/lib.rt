@@ -739,7 +739,8 @@ fn term(
                 let q = compare(
                     file, z.next, work, &f.starts, n, at, o.first, r.end, left, right,
                 );
-                if q.number != ACCEPTED {
+                let stops = q.number != ACCEPTED;
+                if stops {
                     return Walked {
                         number: q.number,
                         place: o.place,

@@ -1,7 +1,6 @@
 -- `sets::check_files` meets its contract: the loop's invariant is that the files from `at` on, with what was counted before them, give the
 -- answer of all of them.
 -- Assumes nothing.
-use Prim.Native.Nat.{◌-◌}
 use mathlib.Core.Path.{refl, ◌∙◌}
 use native.Mathlib.Omega.{arith}
 use Rattle.sets.proofs.Answers.{comparisons_fit}

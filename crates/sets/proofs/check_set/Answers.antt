@@ -1,7 +1,6 @@
 -- `sets::check_set` meets its contract.
 -- Assumes nothing.
 use mathlib.Core.Path.{sym, ap, ◌∙◌}
-use native.Mathlib.Omega.{arith}
 use Rattle.sets.specs.Sets.{check_from, check_set}
 use Rattle.sets.proofs.Answers.{checked}
 use Rattle.sets.proofs.Passes.{heads_refuse, heads_whole}

@@ -1,6 +1,5 @@
 -- `sets::read_heads` meets its contract: the loop's invariant is that the fields from `at` on leave what all of them leave.
 -- Assumes nothing.
-use Prim.Native.Nat.{◌-◌}
 use mathlib.Core.Path.{sym, ap, ◌∙◌}
 use native.Mathlib.Omega.{arith}
 use Rattle.fields.proofs.Laws.{ended}

@@ -33,28 +33,21 @@ overflow_add-h c = omega (arith, passing_bounds c.requires c.loop-symbol.invaria
 pub end_of-q-requires : goal.end_of-q-requires
 end_of-q-requires c = let b = passing_bounds c.requires c.loop-symbol.invariant.0 in (b.3, b.2, omega arith)
 
+-- The wagon at q is passed, whichever it is: three times, each with a name of its own, which a must-fail edit goes by.
 pub offset_bounds-s-q-in-loop-symbol : goal.offset_bounds-s-q-in-loop-symbol
-offset_bounds-s-q-in-loop-symbol c = let w = c.loop-symbol.invariant in let g = c.requires in omega (
-  arith,
-  passing_bounds g w.0,
-  passing_bounds g (pass_item g w.0 w.1 c.loop-symbol-test.true
-      (elim c.if-symbol-eq-APPLICATOR.branch [ then-symbol-eq-APPLICATOR b ↦ inl (b.if-symbol-eq-APPLICATOR.true, b.unmatched-is) | else-symbol-eq-APPLICATOR+else-unmatched-eq0 b ↦ inr (b.if-symbol-eq-APPLICATOR.false, b.if-unmatched-eq0.false, b.unmatched-is) ]) c.end_of-q.ensures),
-)
+offset_bounds-s-q-in-loop-symbol c = let w = c.loop-symbol.invariant in
+    omega (arith, passing_bounds c.requires (pass_item c.requires w.0 w.1 c.loop-symbol-test.true (elim c.if-symbol-eq-APPLICATOR.branch [ then-symbol-eq-APPLICATOR a ↦ inl (a.if-symbol-eq-APPLICATOR.true, a.unmatched-is) | else-symbol-eq-APPLICATOR+else-unmatched-eq0 a ↦ inr (a.if-symbol-eq-APPLICATOR.false, a.if-unmatched-eq0.false, a.unmatched-is) ]) c.end_of-q.ensures))
 
 pub bounds-s-q-in-loop-symbol : goal.bounds-s-q-in-loop-symbol
-bounds-s-q-in-loop-symbol c = let w = c.loop-symbol.invariant in let g = c.requires in omega (
-  arith,
-  passing_bounds g w.0,
-  passing_bounds g (pass_item g w.0 w.1 c.loop-symbol-test.true
-      (elim c.if-symbol-eq-APPLICATOR.branch [ then-symbol-eq-APPLICATOR b ↦ inl (b.if-symbol-eq-APPLICATOR.true, b.unmatched-is) | else-symbol-eq-APPLICATOR+else-unmatched-eq0 b ↦ inr (b.if-symbol-eq-APPLICATOR.false, b.if-unmatched-eq0.false, b.unmatched-is) ]) c.end_of-q.ensures),
-)
+bounds-s-q-in-loop-symbol c = let w = c.loop-symbol.invariant in
+    omega (arith, passing_bounds c.requires (pass_item c.requires w.0 w.1 c.loop-symbol-test.true (elim c.if-symbol-eq-APPLICATOR.branch [ then-symbol-eq-APPLICATOR b ↦ inl (b.if-symbol-eq-APPLICATOR.true, b.unmatched-is) | else-symbol-eq-APPLICATOR+else-unmatched-eq0 b ↦ inr (b.if-symbol-eq-APPLICATOR.false, b.if-unmatched-eq0.false, b.unmatched-is) ]) c.end_of-q.ensures))
 
 pub loop-symbol-smaller : goal.loop-symbol-smaller
 loop-symbol-smaller c = omega (arith, passing_bounds c.requires c.loop-symbol.invariant.0, c.end_of-q.ensures.after, c.end_of-q.ensures.inside)
 
 pub loop-symbol-preserved : goal.loop-symbol-preserved
 loop-symbol-preserved c = let w = c.loop-symbol.invariant in
-    (pass_item c.requires w.0 w.1 c.loop-symbol-test.true (elim c.if-symbol-eq-APPLICATOR.branch [ then-symbol-eq-APPLICATOR b ↦ inl (b.if-symbol-eq-APPLICATOR.true, b.unmatched-is) | else-symbol-eq-APPLICATOR+else-unmatched-eq0 b ↦ inr (b.if-symbol-eq-APPLICATOR.false, b.if-unmatched-eq0.false, b.unmatched-is) ]) c.end_of-q.ensures, c.symbol_of-symbol-in-loop-symbol.ensures.0)
+    (pass_item c.requires w.0 w.1 c.loop-symbol-test.true (elim c.if-symbol-eq-APPLICATOR.branch [ then-symbol-eq-APPLICATOR d ↦ inl (d.if-symbol-eq-APPLICATOR.true, d.unmatched-is) | else-symbol-eq-APPLICATOR+else-unmatched-eq0 d ↦ inr (d.if-symbol-eq-APPLICATOR.false, d.if-unmatched-eq0.false, d.unmatched-is) ]) c.end_of-q.ensures, c.symbol_of-symbol-in-loop-symbol.ensures.0)
 
 pub returns : goal.returns
 returns c = let w = c.loop-symbol.invariant in passed_all c.requires w.0 w.1 (omega (arith, c.loop-symbol-test.false))

@@ -37,29 +37,29 @@ term-loop-f-preserved-then-kind-eq-INNER t c = (c.loop-f.invariant.0, rw c.check
 pub term-compare-q-requires : goal.term-compare-q-requires
 term-compare-q-requires t c = (compare_due c.if-kind-eq-COMPARE.true (c.turn-r.ensures _ _ c.args.file.now c.args.file.now (now_stated c.loop-f.invariant.1)) (now_stated c.loop-f.invariant.1), c.loop-f.invariant.2)
 
-pub term-returns-then-q-ne-ACCEPTED-2 : goal.term-returns-then-q-ne-ACCEPTED-2
-term-returns-then-q-ne-ACCEPTED-2 t c = (compared_stops c.loop-f.invariant.1 c.if-kind-eq-COMPARE.true (c.turn-r.ensures _ _ c.args.file.now c.args.file.now (now_stated c.loop-f.invariant.1)) c.compare-q.ensures.0 c.if-q-ne-ACCEPTED-2.true, c.compare-q.ensures.1)
+pub term-returns-then-stops : goal.term-returns-then-stops
+term-returns-then-stops t c = (compared_stops c.loop-f.invariant.1 c.if-kind-eq-COMPARE.true (c.turn-r.ensures _ _ c.args.file.now c.args.file.now (now_stated c.loop-f.invariant.1)) c.compare-q.ensures.0 c.if-stops.true, c.compare-q.ensures.1)
 
 pub term-completed-z-requires : goal.term-completed-z-requires
-term-completed-z-requires t c = compared_few (compared_goes c.loop-f.invariant.1 c.if-kind-eq-COMPARE.true (c.turn-r.ensures _ _ c.args.file.now c.args.file.now (now_stated c.loop-f.invariant.1)) c.compare-q.ensures.0 c.if-q-ne-ACCEPTED-2.false) refl
+term-completed-z-requires t c = compared_few (compared_goes c.loop-f.invariant.1 c.if-kind-eq-COMPARE.true (c.turn-r.ensures _ _ c.args.file.now c.args.file.now (now_stated c.loop-f.invariant.1)) c.compare-q.ensures.0 c.if-stops.false) refl
 
 pub term-overflow_cast-f : goal.term-overflow_cast-f
-term-overflow_cast-f t c = let q = compared_bounds c.loop-f.invariant.1 c.if-kind-eq-COMPARE.true (c.turn-r.ensures _ _ c.args.file.now c.args.file.now (now_stated c.loop-f.invariant.1)) c.compare-q.ensures.0 c.if-q-ne-ACCEPTED-2.false in omega (arith, q.0)
+term-overflow_cast-f t c = let q = compared_bounds c.loop-f.invariant.1 c.if-kind-eq-COMPARE.true (c.turn-r.ensures _ _ c.args.file.now c.args.file.now (now_stated c.loop-f.invariant.1)) c.compare-q.ensures.0 c.if-stops.false in omega (arith, q.0)
 
 pub term-offset_bounds-f-n : goal.term-offset_bounds-f-n
-term-offset_bounds-f-n t c = let q = compared_bounds c.loop-f.invariant.1 c.if-kind-eq-COMPARE.true (c.turn-r.ensures _ _ c.args.file.now c.args.file.now (now_stated c.loop-f.invariant.1)) c.compare-q.ensures.0 c.if-q-ne-ACCEPTED-2.false in omega (arith, q.1)
+term-offset_bounds-f-n t c = let q = compared_bounds c.loop-f.invariant.1 c.if-kind-eq-COMPARE.true (c.turn-r.ensures _ _ c.args.file.now c.args.file.now (now_stated c.loop-f.invariant.1)) c.compare-q.ensures.0 c.if-stops.false in omega (arith, q.1)
 
 pub term-bounds-f-n : goal.term-bounds-f-n
-term-bounds-f-n t c = let q = compared_bounds c.loop-f.invariant.1 c.if-kind-eq-COMPARE.true (c.turn-r.ensures _ _ c.args.file.now c.args.file.now (now_stated c.loop-f.invariant.1)) c.compare-q.ensures.0 c.if-q-ne-ACCEPTED-2.false in omega (arith, q.1)
+term-bounds-f-n t c = let q = compared_bounds c.loop-f.invariant.1 c.if-kind-eq-COMPARE.true (c.turn-r.ensures _ _ c.args.file.now c.args.file.now (now_stated c.loop-f.invariant.1)) c.compare-q.ensures.0 c.if-stops.false in omega (arith, q.1)
 
 pub term-overflow_add-f : goal.term-overflow_add-f
-term-overflow_add-f t c = let q = compared_bounds c.loop-f.invariant.1 c.if-kind-eq-COMPARE.true (c.turn-r.ensures _ _ c.args.file.now c.args.file.now (now_stated c.loop-f.invariant.1)) c.compare-q.ensures.0 c.if-q-ne-ACCEPTED-2.false in omega (arith, q.1)
+term-overflow_add-f t c = let q = compared_bounds c.loop-f.invariant.1 c.if-kind-eq-COMPARE.true (c.turn-r.ensures _ _ c.args.file.now c.args.file.now (now_stated c.loop-f.invariant.1)) c.compare-q.ensures.0 c.if-stops.false in omega (arith, q.1)
 
 pub term-loop-f-smaller-then-kind-eq-COMPARE : goal.term-loop-f-smaller-then-kind-eq-COMPARE
-term-loop-f-smaller-then-kind-eq-COMPARE t c = rw c.completed-z.ensures (compared_falls c.loop-f.invariant.1 c.if-kind-eq-COMPARE.true (c.turn-r.ensures _ _ c.args.file.now c.args.file.now (now_stated c.loop-f.invariant.1)) c.compare-q.ensures.0 c.if-q-ne-ACCEPTED-2.false)
+term-loop-f-smaller-then-kind-eq-COMPARE t c = rw c.completed-z.ensures (compared_falls c.loop-f.invariant.1 c.if-kind-eq-COMPARE.true (c.turn-r.ensures _ _ c.args.file.now c.args.file.now (now_stated c.loop-f.invariant.1)) c.compare-q.ensures.0 c.if-stops.false)
 
 pub term-loop-f-preserved-then-kind-eq-COMPARE : goal.term-loop-f-preserved-then-kind-eq-COMPARE
-term-loop-f-preserved-then-kind-eq-COMPARE t c = (c.loop-f.invariant.0, rw c.completed-z.ensures (compared_goes c.loop-f.invariant.1 c.if-kind-eq-COMPARE.true (c.turn-r.ensures _ _ c.args.file.now c.args.file.now (now_stated c.loop-f.invariant.1)) c.compare-q.ensures.0 c.if-q-ne-ACCEPTED-2.false), c.compare-q.ensures.1, c.loop-f.invariant.3)
+term-loop-f-preserved-then-kind-eq-COMPARE t c = (c.loop-f.invariant.0, rw c.completed-z.ensures (compared_goes c.loop-f.invariant.1 c.if-kind-eq-COMPARE.true (c.turn-r.ensures _ _ c.args.file.now c.args.file.now (now_stated c.loop-f.invariant.1)) c.compare-q.ensures.0 c.if-stops.false), c.compare-q.ensures.1, c.loop-f.invariant.3)
 
 pub term-overflow_cast-f-then-r : goal.term-overflow_cast-f-then-r
 term-overflow_cast-f-then-r t c = let q = on_bounds c.loop-f.invariant.1 (settles_now c.if-kind-eq-COMPARE.false (c.turn-r.ensures _ _ c.args.file.now c.args.file.now (now_stated c.loop-f.invariant.1))) c.if-kind-eq-ANSWER.false c.if-kind-eq-INNER.false c.if-r.true in omega (arith, q.0)
