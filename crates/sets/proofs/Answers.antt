@@ -20,7 +20,7 @@ use Rattle.files.specs.Claims.{Accepted}
 use Rattle.files.proofs.Answers.{says as file_says, bytes_take}
 use Rattle.sets.specs.declared.SetAnswer.{SetAnswer}
 use Rattle.sets.specs.Sets.{longest_set, refused_file, accepted_set, check_files, check_from, check_set}
-use Rattle.sets.specs.Claims.{write_set, HoldsFiles, FileAccepted, FileRefused, AllAccepted, none, next, SetAccepted, SetRefused, over_long, not_a_set, one_file, AcceptedSets, SetChecked}
+use Rattle.sets.specs.Claims.{write_set, HoldsFiles, FileAccepted, FileRefused, AllAccepted, none, next, SetAccepted, SetRefused, over_long, no_set, one_file, AcceptedSets, SetChecked}
 use Rattle.sets.proofs.Heads.{SetView, over, cut, files, set_view, holding}
 
 -- THE FILES
@@ -85,7 +85,7 @@ says s b = go (set_view s b)
   where
     go : {q : Sequence (List ℕ)} → SetView s q → Says s (check_from 0 0 q)
     go (over l) = (λ e. absurd (omega arith), λ e. over_long l)
-    go (cut fs rest l h n) = (λ e. absurd (omega arith), λ e. not_a_set fs rest l h n)
+    go (cut fs rest l h n) = (λ e. absurd (omega arith), λ e. no_set fs rest l h n)
     go (files {fs = fs} h) = files_say h (view fs (subst Bytes h.written b) 0 0)
 
 -- every file is accepted, and so is the set

@@ -55,7 +55,7 @@ pub record NoField (fs : List (List ℕ)) (rest : List ℕ) : Type 0 where
 -- What it is for it to be refused with that answer.
 pub data SetRefused (s : List ℕ) : SetAnswer → Type 0 where
   over_long : longest_set < length s → SetRefused s (refused_set too_long 0)
-  not_a_set : (fs : List (List ℕ)) (rest : List ℕ) → length s ≤ longest_set → s ≡ write_set fs ++ rest → NoField fs rest
+  no_set : (fs : List (List ℕ)) (rest : List ℕ) → length s ≤ longest_set → s ≡ write_set fs ++ rest → NoField fs rest
       → SetRefused s (refused_set not_a_set (length (write_set fs)))
   -- the first file that is refused, all before it accepted, with its own answer and all that this says of a file
   one_file : (fs : List (List ℕ)) (i : ℕ) → HoldsFiles s fs → i < length fs → ((j : ℕ) → j < i → FileAccepted fs j) → (FileAccepted fs i → ⊥)
