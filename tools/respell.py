@@ -84,6 +84,7 @@ TOGETHER = {
     "too_long": "over_long",
     "too-long": "over_long",
     "open-term": "opened_term",
+    "not-a-set": "no_set",
     "in-front": "stays_in_front",
     "read_byte": "read_byte_lem",
 }
