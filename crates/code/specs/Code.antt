@@ -1,10 +1,10 @@
 -- Terms as bytes, and back; the balance, and where a term ends (document 01, 'Terms').
 -- Assumes nothing.
+use Rattle.std.specs.Prelude as prelude
+use Rattle.std.specs.Prelude.{Some, None}
 use Rattle.std.specs.Prelude.{ℕ, suc, ◌-◌, ◌≤◌, ◌<◌, ◌≡◌, cond, List, [], ◌∷◌, ◌++◌, eqb, ℤ, pos, negsuc, get_or, drop}
 use Rattle.std.proofs.Math.Option.{Option, none, some, bind}
 use Rattle.calculus.specs.Terms.{Term, tau, var, app, abs}
-use Rattle.code.specs.declared.TermEnd.{TermEnd}
-use Rattle.code.specs.declared.TermEnd.TheVariants.{At, Never}
 
 -- What a byte stands for: 00 is τ, fe an applicator, ff an abstractor, any other byte a variable.
 pub data Symbol : Type 0 where
@@ -93,7 +93,7 @@ unfoldable pub term_end : List ℕ → ℕ → Option ℕ
 unfolding first_zero
 term_end s from = first_zero (drop from s) 1 from
 
--- The answer of the function `term_end`, as a place or none.
-abbrev pub end_of : TermEnd → Option ℕ
-end_of (At e) = some e
-end_of Never = none
+-- A place or none, as the function `term_end` answers it.
+abbrev pub end_of : prelude.Option ℕ → Option ℕ
+end_of (Some e) = some e
+end_of None = none

@@ -1,6 +1,8 @@
 -- What an answer's number says (document 01, 'Sorted by what stops a check'; from 15 on, the requests of document 02), each named once.
 -- Assumes nothing.
 use Rattle.std.specs.Prelude.{ℕ}
+use Rattle.code.specs.declared.refusal.Condition.{Condition}
+use Rattle.code.specs.declared.refusal.Condition.TheVariants.{CutShort, WrongField, NotOneTerm, TooLong, BeyondScope, TooManyInScope, NoType, StillWaiting, NoGroupLeft, StepNotPossible, Outgrown, BodiesDiffer, GroupsLeft, BufferTooShort, TooLongToCount, NotASet, NotReached}
 
 abbrev pub accepted : ℕ
 accepted = 0
@@ -72,3 +74,23 @@ not_a_set = 16
 -- of what stops no check
 abbrev pub never : ℕ
 never = 255
+
+-- The number of each condition of the code.
+abbrev pub number_of : Condition → ℕ
+number_of CutShort = cut_short
+number_of WrongField = wrong_field
+number_of NotOneTerm = not_one_term
+number_of TooLong = too_long
+number_of BeyondScope = beyond_scope
+number_of TooManyInScope = too_many_in_scope
+number_of NoType = no_type
+number_of StillWaiting = still_waiting
+number_of NoGroupLeft = no_group_left
+number_of StepNotPossible = step_not_possible
+number_of Outgrown = outgrown
+number_of BodiesDiffer = bodies_differ
+number_of GroupsLeft = groups_left
+number_of BufferTooShort = buffer_too_short
+number_of TooLongToCount = too_long_to_count
+number_of NotASet = not_a_set
+number_of NotReached = never

@@ -3,6 +3,7 @@
 #![tactic(auto)]
 
 pub mod numbers;
+pub mod refusal;
 
 ghost use Rattle.std.specs.Prelude.{◌≡◌, ◌≤◌, length};
 ghost use Rattle.code.specs.Limits.{longest_file};
@@ -10,16 +11,9 @@ ghost use Rattle.code.specs.Code.{Tabled, delta, term_end, end_of};
 ghost use Rattle.code.specs.Scope.{Scopes};
 ghost use Rattle.code.specs.Claims.{Inverse, Sizes, Balance, Examples};
 
-// Where a term ends: the place past its last byte, or never, where the bytes end before the term does or it starts past them.
+// What each byte does to the balance: -1 for a terminal, 1 for an applicator or an abstractor.
 pub type Deltas = [i32; 256];
 
-#[derive(Drop)]
-pub enum TermEnd {
-    At(usize),
-    Never,
-}
-
-// What each byte does to the balance: -1 for a terminal, 1 for an applicator or an abstractor.
 const TABLE: [i32; 256] = [
     -1, // 00: tau
     -1, // 01 to fd: the variables
@@ -49,34 +43,31 @@ pub fn delta_of(deltas: &Deltas, b: u8) -> i32
     requires { Tabled deltas.now }
     ensures { result ≡ delta b }
 {
-    let i = b as usize;
-    deltas[i]
+    deltas[usize::from(b)]
 }
 
-// Where the term of s that starts at `from` ends: the balance starts at +1 and the term ends where it first reaches 0.
-pub fn term_end_by(deltas: &Deltas, s: &[u8], from: usize) -> TermEnd
+// Where the term of s that starts at `from` ends: the balance starts at +1 and the term ends where it first reaches 0. None, where the bytes
+// end before the term does or it starts past them.
+pub fn term_end_by(deltas: &Deltas, s: &[u8], from: usize) -> Option<usize>
     requires { Tabled deltas.now × (length s.now ≤ longest_file) }
     ensures { end_of result ≡ term_end s.now from }
 {
     let mut balance: i32 = 1;
-    let mut i = from;
-    while i < s.len() {
+    for i in from..s.len() {
         balance += delta_of(deltas, s[i]);
         if balance == 0 {
-            return TermEnd::At(i + 1);
+            return Some(i + 1);
         }
-        i += 1;
     }
-    TermEnd::Never
+    None
 }
 
 // The same, with a table of its own.
-pub fn term_end(s: &[u8], from: usize) -> TermEnd
+pub fn term_end(s: &[u8], from: usize) -> Option<usize>
     requires { length s.now ≤ longest_file }
     ensures { end_of result ≡ term_end s.now from }
 {
-    let deltas = table();
-    term_end_by(&deltas, s, from)
+    term_end_by(&table(), s, from)
 }
 
 pub fn inverse()

@@ -139,10 +139,9 @@ pub fn examine_term(s: &[u8]) -> TermAnswer
     if s.len() > LONGEST_TERM {
         return refusal(TOO_LONG, 0);
     }
-    let end = code::term_end(s, 0);
-    match end {
-        code::TermEnd::Never => refusal(NOT_ONE_TERM, s.len()),
-        code::TermEnd::At(e) => {
+    match code::term_end(s, 0) {
+        None => refusal(NOT_ONE_TERM, s.len()),
+        Some(e) => {
             if e != s.len() {
                 return refusal(NOT_ONE_TERM, e);
             }

@@ -1,7 +1,7 @@
 -- A stored frame: its depth, its size, what decides it, one entry more, and the entry that an index means.
 -- Assumes nothing.
 use Prim.Native.Nat.{ℕ, zero, suc, ◌+◌, ◌-◌, ◌≤◌, ◌<◌}
-use mathlib.Core.Path.{◌≡◌, refl, ap, ◌∙◌}
+use mathlib.Core.Path.{◌≡◌, refl, sym, ap, ◌∙◌}
 use mathlib.Core.Option.{none, some, some-injective}
 use mathlib.Core.List.{List}
 use native.Mathlib.Omega.{arith}
@@ -10,7 +10,9 @@ use lib.ListN.{length, get_or, length-set}
 use lib.Seq.{get_or-set_same}
 use Rattle.calculus.specs.Frames.{Entry, domain, Frame, ε, ◌▹◌, depth, entry_at}
 use Rattle.code.specs.Limits.{longest_state, most_abstractors}
-use Rattle.code.specs.Code.{term_end}
+use Rattle.std.specs.Prelude as prelude
+use Rattle.std.specs.Prelude.{Some, None, IsSome}
+use Rattle.code.specs.Code.{term_end, end_of}
 use Rattle.code.specs.Claims.{Stands}
 use Rattle.code.proofs.FirstZero.{standing}
 use Rattle.code.proofs.Parts.{stands_start, stands_end}
@@ -112,11 +114,12 @@ span_domain (span_single a u) = u
 span_domain (span_pair a b k u) = u
 
 -- ---- What the code finds: where a term ends, the parts of an entry, and the entry that an index means.
-pub end_at : {w : List ℕ} {p e : ℕ} → some e ≡ term_end w p → EndAt w p e
-end_at {e = e} q = record { ends = λ e' t h. some-injective e e' (q ∙ standing h) }
+pub end_at : {w : List ℕ} {p e : ℕ} (r : prelude.Option ℕ) → end_of r ≡ term_end w p → r ≡ Some e → EndAt w p e
+end_at {e = e} r q is = record { ends = λ e' t h. some-injective e e' (ap end_of (sym is) ∙ q ∙ standing h) }
 
-pub ends_somewhere : {w : List ℕ} {p : ℕ} → SomeTermFrom w p → none ≡ term_end w p → ⊥
-ends_somewhere h q = no_some (q ∙ standing h.stands)
+pub ends_somewhere : {w : List ℕ} {p : ℕ} (r : prelude.Option ℕ) → SomeTermFrom w p → end_of r ≡ term_end w p → IsSome r
+ends_somewhere (Some e) h q = refl
+ends_somewhere None h q = absurd (no_some (q ∙ standing h.stands))
 
 module _ {w : List ℕ} {p e : ℕ} where
   pub entry_room : EntryAt w p e → suc p < longest_state

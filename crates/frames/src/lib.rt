@@ -7,7 +7,7 @@ ghost use Rattle.frames.specs.Stored.{Holding, EmptyRecord, SomeTermFrom, EndAt,
 ghost use Rattle.frames.specs.Claims.{FrameLaws};
 
 use code::numbers::{LONGEST_STATE, MOST_ABSTRACTORS};
-use code::{TermEnd, term_end};
+use code::term_end;
 
 // The work array (document 01: 'one [0; LONGEST_STATE] byte array').
 pub type Work = [u8; LONGEST_STATE];
@@ -52,11 +52,7 @@ fn end_of(work: &Work, p: usize) -> usize
     requires { SomeTermFrom work.now p }
     ensures { EndAt work.now p result }
 {
-    let all = &work[..];
-    let TermEnd::At(e) = term_end(all, p) else {
-        return p;
-    };
-    e
+    term_end(&work[..], p).unwrap()
 }
 
 // The parts of the entry whose bytes stand from p up to e.

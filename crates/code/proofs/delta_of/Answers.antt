@@ -5,4 +5,4 @@ use Rattle.code.proofs.Turn.{delta_kept}
 use Rattle.code.proofs.delta_of.Goals as goal
 
 pub returns : goal.returns
-returns c = rw (c.requires.rule c.args.b (search rules)) (delta_kept c.args.b)
+returns c = rw (c.from.ensures, c.requires.rule c.args.b (search rules)) (delta_kept c.args.b)

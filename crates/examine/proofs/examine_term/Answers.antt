@@ -12,11 +12,11 @@ returns-then-s-gt-LONGEST_TERM c = answered _ (examined_long _ c.if-s-gt-LONGEST
 
 pub returns-then-e-s : goal.returns-then-e-s
 returns-then-e-s c =
-    answered _ (examined_past _ c.if-s-gt-LONGEST_TERM.false (sym c.term_end-end.ensures ∙ ap end_of c.in-At.is) (λ q. omega arith)) c.refusal-then-e-s.ensures
+    answered _ (examined_past _ c.if-s-gt-LONGEST_TERM.false (sym c.term_end.ensures ∙ ap end_of c.in-Some.is) (λ q. omega arith)) c.refusal-then-e-s.ensures
 
 pub walk-requires : goal.walk-requires
-walk-requires c = (c.if-s-gt-LONGEST_TERM.false, sym c.term_end-end.ensures ∙ ap end_of c.in-At.is ∙ ap some (omega arith))
+walk-requires c = (c.if-s-gt-LONGEST_TERM.false, sym c.term_end.ensures ∙ ap end_of c.in-Some.is ∙ ap some (omega arith))
 
-pub returns-in-Never : goal.returns-in-Never
-returns-in-Never c =
-    answered _ (examined_endless _ c.if-s-gt-LONGEST_TERM.false (sym c.term_end-end.ensures ∙ ap end_of c.in-Never.is)) c.refusal-in-Never.ensures
+pub returns-in-None : goal.returns-in-None
+returns-in-None c =
+    answered _ (examined_endless _ c.if-s-gt-LONGEST_TERM.false (sym c.term_end.ensures ∙ ap end_of c.in-None.is)) c.refusal-in-None.ensures
