@@ -6,3 +6,4 @@ pub mod FirstZero
 pub mod Parts
 pub mod Turn
 pub mod Scope
+pub mod Refusals

@@ -64,6 +64,18 @@ pub struct Refusal {
     pub place: usize,
 }
 
+impl Condition {
+    // The refusal for this condition at a place.
+    pub fn at(self, place: usize) -> Refusal
+        ensures { result ≡ record { condition = self; place = place } }
+    {
+        Refusal {
+            condition: self,
+            place,
+        }
+    }
+}
+
 // The number and the place.
 impl fmt::Display for Refusal {
     fn fmt<W: fmt::Write>(&self, f: &mut fmt::Formatter<W>) -> fmt::Result {
