@@ -7,12 +7,16 @@ use mathlib.Core.List.{List, []}
 use native.Mathlib.Omega.{arith}
 use native.Mathlib.Numerals.{add-one}
 use lib.ListN.{length, get_or}
+use Rattle.std.specs.Prelude.{None, Some}
+use Rattle.std.proofs.lemmas.List.Edits.{get_or-between}
 use Rattle.calculus.specs.Terms.{Term, tau, var, app, abs, size}
 use Rattle.calculus.specs.Frames.{Frame, depth}
 use Rattle.calculus.specs.Steps.{removal, whole, couples, reach_of, kind_in, Reason, unknown_kind, past_end, wrong_symbol, no_partner, still_used, Outcome, refused, map_outcome, remove, fill, step_here, step_of, step_by, step}
 use Rattle.code.specs.Limits.{longest_term, most_abstractors}
 use Rattle.code.specs.Scope.{scope}
 use Rattle.frames.specs.declared.FrameRecord.{FrameRecord}
+use Rattle.parts.specs.Parts.{part}
+use Rattle.parts.proofs.Cut.{length_part}
 use Rattle.letters.specs.Letters.{applicator, abstractor, symbol_of, depth_of, height_of, Lies}
 use Rattle.letters.proofs.Letters.{first, depth_letter, lies_end}
 use Rattle.bodies.specs.Ways.{Way, put, frame_at, depth_at, height_at}
@@ -165,34 +169,31 @@ module _ {s : List ℕ} {n p : ℕ} (g : InSomeBody s n p) where
     pub some_tail : SomeTail s n m h
     some_tail = record { array = here.array; most = bounds.1; low = omega (arith, high_is here, (found here).at.low, i.after); e = E (found here); c = D (found here); C = (found here).C; tail = tail_of here }
 
-    module _ {b : ℕ} (j : Partnered s n m h b) where
-      pub alone : {r : Couple} → b ≡ n → r.reason ≡ 4 → Searches s n p r
-      unfolding reason_number map_outcome step_here
-      alone {r} z e = record { all = λ w f R t y. go y (j.all (E (found y)) (D (found y)) (found y).C (tail_of y)) }
+    pub alone : {r : Couple} → Partnered s n m h None → r.reason ≡ 4 → Searches s n p r
+    unfolding reason_number map_outcome step_here
+    alone {r} j e = record { all = λ w f R t y. go y (j.all (E (found y)) (D (found y)) (found y).C (tail_of y)) }
+      where
+        go : {w : List ℕ} {f : FrameRecord} {R : Frame} {t : Term} (y : Held w f s n R t) → PartnerIs m (found y).C None → Sought s n p R t r
+        go {R = R} y (nobody v) = no_couple {y = no_partner} e (removal_here R (found y).way (v remove (found y).K)) (whole_here R (found y).way (v fill (found y).K))
+
+    module _ {b : ℕ} (j : Partnered s n m h (Some b)) where
+      partner : {w : List ℕ} {f : FrameRecord} {R : Frame} {t : Term} (y : Held w f s n R t) → (q : ℕ) × (k : ℕ) × (U : Term) × (B : Term) × (b ≡ m + q) × Tail (found y).C q 0 k (abs U B)
+      partner y = go (j.all (E (found y)) (D (found y)) (found y).C (tail_of y))
         where
-          go : {w : List ℕ} {f : FrameRecord} {R : Frame} {t : Term} (y : Held w f s n R t) → PartnerIs n m (found y).C b → Sought s n p R t r
-          go {R = R} y (nobody q v) = no_couple {y = no_partner} e (removal_here R (found y).way (v remove (found y).K)) (whole_here R (found y).way (v fill (found y).K))
-          go y (somebody q w) = let T = tail_of y in absurd (omega (arith, lies_end (tail_lies T.lies w), T.inside))
+          go : {C : Term} → PartnerIs m C (Some b) → (q : ℕ) × (k : ℕ) × (U : Term) × (B : Term) × (b ≡ m + q) × Tail C q 0 k (abs U B)
+          go (somebody {q = q} {j = k} {U = U} {B = B} r w) = (q, k, U, B, r, w)
 
-      module _ (z : b ≡ n → ⊥) where
-        partner : {w : List ℕ} {f : FrameRecord} {R : Frame} {t : Term} (y : Held w f s n R t) → (q : ℕ) × (k : ℕ) × (U : Term) × (B : Term) × (b ≡ m + q) × Tail (found y).C q 0 k (abs U B)
-        partner y = go (j.all (E (found y)) (D (found y)) (found y).C (tail_of y))
-          where
-            go : {C : Term} → PartnerIs n m C b → (q : ℕ) × (k : ℕ) × (U : Term) × (B : Term) × (b ≡ m + q) × Tail C q 0 k (abs U B)
-            go (nobody q v) = absurd (z q)
-            go (somebody {q = q} {j = k} {U = U} {B = B} r w) = (q, k, U, B, r, w)
+      pub partner_inside : b < n
+      partner_inside = let T = tail_of here in let o = partner here in omega (arith, lies_end (tail_lies T.lies o.5), T.inside)
 
-        pub partner_inside : b < n
-        partner_inside = let T = tail_of here in let o = partner here in omega (arith, lies_end (tail_lies T.lies o.5), T.inside)
+      module _ {q : ℕ} (k : Ending s n (b + 1) (h + 1) q) {e : ℕ} (l : Ending s n q h e) {c d : ℕ} (c_is : c ≡ depth_of (get_or s p 0)) (d_is : d ≡ depth_of (get_or s b 0)) where
+        coupled : {w : List ℕ} {f : FrameRecord} {R : Frame} {t : Term} (y : Held w f s n R t) → CoupleAt s n p R t (found_at c d m b q e)
+        coupled {R = R} {t} y = let o = partner y in
+            subst (λ v. CoupleAt s n p R t (found_at v d m b q e)) (sym (c_is ∙ (found y).at.deep))
+            (couple_of (found y) (one y) o.4 o.5 (subst (λ v. Ending s n (b + 1) (v + 1) q) (high_is y) k) (subst (λ v. Ending s n q v e) (high_is y) l) d_is)
 
-        module _ {q : ℕ} (k : Ending s n (b + 1) (h + 1) q) {e : ℕ} (l : Ending s n q h e) {c d : ℕ} (c_is : c ≡ depth_of (get_or s p 0)) (d_is : d ≡ depth_of (get_or s b 0)) where
-          coupled : {w : List ℕ} {f : FrameRecord} {R : Frame} {t : Term} (y : Held w f s n R t) → CoupleAt s n p R t (found_at c d m b q e)
-          coupled {R = R} {t} y = let o = partner y in
-              subst (λ v. CoupleAt s n p R t (found_at v d m b q e)) (sym (c_is ∙ (found y).at.deep))
-              (couple_of (found y) (one y) o.4 o.5 (subst (λ v. Ending s n (b + 1) (v + 1) q) (high_is y) k) (subst (λ v. Ending s n q v e) (high_is y) l) d_is)
-
-          pub couple_found : Searches s n p (found_at c d m b q e)
-          couple_found = record { all = λ w f R t y. couple_there refl (coupled y) }
+        pub couple_found : Searches s n p (found_at c d m b q e)
+        couple_found = record { all = λ w f R t y. couple_there refl (coupled y) }
 
   -- The couple that was found.
   module _ {x : Couple} (c : Searches s n p x) (e : x.reason ≡ 0) where
@@ -215,13 +216,19 @@ pub places : {s : List ℕ} {p : ℕ} {x : Couple} → SomeCouple s p x
 places g = let l = g.lies in
     (omega (arith, lies_end l.argument), l.order, omega (arith, l.place), omega (arith, lies_end l.rest), omega (arith, lies_end l.rest, g.array), omega (arith, l.inner), omega (arith, l.rest_few))
 
-pub in_scope : {s : List ℕ} {p : ℕ} {x : Couple} → SomeCouple s p x → InScope s x.rest x.end x.depth
-in_scope g = let l = g.lies in record {
-  array = g.array;
-  ordered = omega (arith, lies_end l.rest);
-  inside = omega (arith, lies_end l.rest, g.array);
-  deep = λ j u v. omega (arith, (above g.B (omega (arith, l.rest_few)) l.rest j u v).deep);
-}
+-- The letter at j of a part.
+pub part_letter : (s : List ℕ) (q e j : ℕ) → j < length (part s q e) → e ≤ length s → get_or (part s q e) j 0 ≡ get_or s (q + j) 0
+part_letter s q e j l m = get_or-between s q e j 0 (omega (arith, length_part s q e m))
+
+module _ {s : List ℕ} {p : ℕ} {x : Couple} (g : SomeCouple s p x) where
+  pub rest_deep : (j : ℕ) → x.rest ≤ j → j < x.end → x.depth < depth_of (get_or s j 0)
+  rest_deep j u v = omega (arith, (above g.B (omega (arith, g.lies.rest_few)) g.lies.rest j u v).deep)
+
+  pub in_scope : InScope (part s x.rest x.end) x.depth × (length (part s x.rest x.end) ≤ longest_term)
+  in_scope = let m : x.end ≤ length s = omega (arith, lies_end g.lies.rest) in let n = length_part s x.rest x.end m in (
+    record { deep = λ j l. rw (part_letter s x.rest x.end j l m) (rest_deep (x.rest + j) (omega arith) (omega arith)) },
+    omega (arith, g.array),
+  )
 
 -- ---- Where there is none, both kinds are refused.
 pub search_refused : {s : List ℕ} {n p : ℕ} {x : Couple} → Searches s n p x → (x.reason ≡ 0 → ⊥) → (w : List ℕ) (f : FrameRecord)

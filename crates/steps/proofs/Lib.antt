@@ -5,5 +5,7 @@ pub mod Tails
 pub mod Couples
 pub mod Removing
 pub mod Filling
+pub mod Storing
+pub mod Lifting
 pub mod Writing
 pub mod Substituting

@@ -2,7 +2,7 @@
 -- Assumes nothing.
 use Prim.Native.Nat.{ℕ, suc, ◌+◌, ◌-◌, ◌≤◌, ◌<◌}
 use mathlib.Core.Path.{◌≡◌, refl, ap, ap₂, sym, ◌∙◌}
-use mathlib.Core.Bool.{cond}
+use mathlib.Core.Bool.{Bool, true, false, cond}
 use mathlib.Core.Logic.{◌⊎◌, inl, inr}
 use mathlib.Core.Option.{Option, none, some}
 use mathlib.Core.List.{List, [], ◌∷◌, ◌++◌, map, map-append}
@@ -10,7 +10,9 @@ use native.Mathlib.Omega.{arith}
 use native.Mathlib.Nat.{add-suc, add-zero, zero-add}
 use native.Mathlib.Numerals.{add-one}
 use lib.Dec.{eqb}
-use lib.ListN.{length, get_or}
+use lib.ListN.{length, get_or, drop}
+use mir.Val.{bool_byte}
+use Rattle.std.proofs.lemmas.List.{drop_more, drop_all}
 use borrow.Author.Tests.{lt-ltb, le-ltb, le-leb, lt-leb, eq-eqb, ne_eqb}
 use Rattle.calculus.specs.Terms.{Term, tau, var, app, abs, size, lift, lift_index}
 use Rattle.calculus.specs.Steps.{lower, lower_var, both}
@@ -20,10 +22,9 @@ use Rattle.code.specs.Code.{Coded, coded_tau, coded_var, coded_app, coded_abs}
 use Rattle.code.specs.Scope.{scope}
 use Rattle.code.proofs.Scope.{scope_lift}
 use Rattle.parts.specs.Parts.{part}
-use Rattle.parts.proofs.Cut.{part_first, part_empty}
 use Rattle.letters.specs.Letters.{letter, letters, applicator, abstractor, symbol_of, depth_of, Lies}
 use Rattle.letters.proofs.Letters.{letter_parts, symbol_letter, depth_letter, height_letter, lies_taken}
-use Rattle.steps.specs.Lowering.{lowered_symbol, lowered_letter, use_of, uses_of}
+use Rattle.steps.specs.Lowering.{lowered_symbol, lowered_letter, is_use, use_of, uses_of}
 
 -- ---- What lowering keeps.
 module _ (c : ℕ) (t u : Term) (e : lower c t ≡ some u) where
@@ -148,24 +149,23 @@ module _ (c x : ℕ) (a : c < depth_of x) where
   unfolding lowered_letter lowered_symbol letter
   lowered_fallen b d = rw (lt-ltb (symbol_of x) applicator b, le-ltb (symbol_of x) (depth_of x - c) d) (omega (arith, letter_parts x))
 
-pub use_there : (c x : ℕ) → symbol_of x ≡ depth_of x - c → 1 ≡ use_of c x
-unfolding use_of
-use_there c x q = rw (eq-eqb (symbol_of x) (depth_of x - c) q)
+-- The loop that counts: the first i letters are counted.
+pub record Counting (s : List ℕ) (c i count : ℕ) : Type 0 where
+  pub few : count ≤ i
+  pub sum : count + uses_of c (drop i s) ≡ uses_of c s
 
-pub use_missing : (c x : ℕ) → (symbol_of x ≡ depth_of x - c → ⊥) → 0 ≡ use_of c x
-unfolding use_of
-use_missing c x q = rw (ne_eqb (symbol_of x) (depth_of x - c) q)
+module _ {s : List ℕ} {c i count : ℕ} (w : Counting s c i count) where
+  pub counting_next : {b : Bool} {x : ℕ} → i < length s → b ≡ is_use c (get_or s i 0) → x ≡ bool_byte b → Counting s c (i + 1) (count + x)
+  unfolding uses_of use_of
+  counting_next {x = x} l q r = let o = one_use (get_or s i 0) q r in record { few = omega (arith, w.few, o); sum = omega (arith, w.sum, o, ap (uses_of c) (drop_more s i 0 l)) }
+    where
+      one_use : (y : ℕ) {b : Bool} → b ≡ is_use c y → x ≡ bool_byte b → (x ≤ 1) × (x ≡ use_of c y)
+      one_use y {b} q = rw (← q) (go b)
+        where
+          go : (b : Bool) → x ≡ bool_byte b → (x ≤ 1) × (x ≡ cond b 1 0)
+          go true r = (omega arith, r)
+          go false r = (omega arith, r)
 
--- The loop that counts.
-pub record Counting (s : List ℕ) (from to c i count : ℕ) : Type 0 where
-  pub few : count + from ≤ i
-  pub sum : count + uses_of c (part s i to) ≡ uses_of c (part s from to)
-
-module _ {s : List ℕ} {from to c i count : ℕ} (w : Counting s from to c i count) where
-  pub counting_next : {x : ℕ} → i < to → to ≤ length s → x ≡ use_of c (get_or s i 0) → x ≤ 1 → Counting s from to c (i + 1) (count + x)
+  pub counting_end : length s ≤ i → count ≡ uses_of c s
   unfolding uses_of
-  counting_next l n q o = record { few = omega (arith, w.few); sum = omega (arith, w.sum, ap (uses_of c) (part_first s i to l n)) }
-
-  pub counting_end : to ≤ i → count ≡ uses_of c (part s from to)
-  unfolding uses_of
-  counting_end l = omega (arith, w.sum, ap (uses_of c) (part_empty s i to l))
+  counting_end l = omega (arith, w.sum, ap (uses_of c) (drop_all i s l))

@@ -5,9 +5,9 @@ use mathlib.Core.Path.{◌≡◌, refl, ap, sym, subst, ◌∙◌}
 use mathlib.Core.Option.{Option, some}
 use mathlib.Core.List.{List, ◌++◌, map, append_assoc}
 use native.Mathlib.Omega.{arith}
-use native.Mathlib.Nat.{add-zero}
-use lib.ListN.{length, get_or, take, drop}
-use lib.Seq.{sets, sets-eq, take-append-add, get_or-drop}
+use lib.ListN.{length, take, drop}
+use borrow.Rule.Slice.PartMut.{put_mid}
+use lib.Seq.{paste, sets, sets-eq, take-append-add}
 use Rattle.calculus.specs.Terms.{Term, size}
 use Rattle.calculus.specs.Frames.{Frame}
 use Rattle.calculus.specs.Steps.{still_used, reached, refused, map_outcome, lower, unused, remove, at_partner, step_here, step}
@@ -18,7 +18,7 @@ use Rattle.parts.specs.Parts.{part, Copied}
 use Rattle.parts.proofs.Cut.{length_part}
 use Rattle.parts.proofs.Stores.{take_sets, drop_sets_start}
 use Rattle.frames.specs.declared.FrameRecord.{FrameRecord}
-use Rattle.letters.specs.Letters.{letters, depth_of}
+use Rattle.letters.specs.Letters.{letters}
 use Rattle.letters.proofs.Letters.{length_letters, lies_end}
 use Rattle.bodies.specs.Ways.{put, depth_at, height_at}
 use Rattle.bodies.specs.Held.{Held, reason_number, SteppedAs, step_refused, step_reached, Steps}
@@ -30,18 +30,16 @@ use Rattle.steps.specs.Couples.{InSomeBody, instead, SomeCouple, remaining, Coup
 use Rattle.steps.specs.declared.Couple.{Couple}
 use Rattle.steps.proofs.Lowering.{lowered_lies, uses_none, uses_some, lower_size, lower_scope}
 use Rattle.steps.proofs.Tails.{partner_along, tail_scope, instead_size, instead_scope, instead_letters}
-use Rattle.steps.proofs.Couples.{removal_here, couple_of_body, some_couple, places, in_scope}
+use Rattle.steps.proofs.Couples.{removal_here, bounds, couple_of_body, some_couple, couple_inside, places, in_scope}
+use Rattle.steps.proofs.Storing.{moved_within, mapped_part}
 use Rattle.steps.proofs.Writing.{later_letters, behind_gap}
-
-at_drop : (s : List ℕ) (j : ℕ) → get_or s j 0 ≡ get_or (drop j s) 0 0
-at_drop s j = ap (λ i. get_or s i 0) (sym (add-zero j)) ∙ sym (get_or-drop j s 0 0)
 
 -- ---- The letters from q up to e move to p, changed, with all that follow.
 module _ {s : List ℕ} {n p q e : ℕ} (l : n ≤ length s) (o : p ≤ q) (b : q ≤ e) (g : e ≤ n) {v : List ℕ} (k : length v ≡ e - q) where
-  dropped : {s₁ s₂ : List ℕ} → s₁ ≡ sets s q v → length s₁ ≡ length s → Copied s₁ q n s₁ s₂ (q - (q - p)) → Spliced s s₂ n p e v
+  dropped : {s₁ s₂ : List ℕ} → s₁ ≡ sets s q v → length s₁ ≡ length s → Copied s₁ q n s₁ s₂ p → Spliced s s₂ n p e v
   dropped {s₁} {s₂} a y d = record {
     rest = drop (p + length (part s₁ q n)) s₁;
-    letters_there = d.bytes ∙ ap (λ x. sets s₁ x (part s₁ q n)) (omega arith) ∙ sets-eq (part s₁ q n) s₁ p (omega (arith, count)) ∙ rw (start, moved) (simp append_assoc);
+    letters_there = d.bytes ∙ sets-eq (part s₁ q n) s₁ p (omega (arith, count)) ∙ rw (start, moved) (simp append_assoc);
     same_length = d.same_length ∙ y;
   }
     where
@@ -86,8 +84,8 @@ module _ {W : List ℕ} {f : FrameRecord} {s : List ℕ} {n p : ℕ} {R : Frame}
   abbrev at : ℕ
   at = p + (x.abstractor - x.between)
 
-  module _ (g : SomeCouple s p x) {s₁ s₂ s₃ : List ℕ} (c : Copied s x.between x.abstractor s s₁ (x.between - (x.between - p))) where
-    removed : uses_of x.depth (part s x.rest x.end) ≡ 0 → Mapped (lowered_letter x.depth) s₁ s₁ s₂ x.rest x.end x.rest → Copied s₂ x.rest n s₂ s₃ (x.rest - (x.rest - at))
+  module _ (g : SomeCouple s p x) {s₁ s₂ s₃ : List ℕ} (c : Copied s x.between x.abstractor s s₁ p) where
+    removed : uses_of x.depth (part s x.rest x.end) ≡ 0 → Mapped (lowered_letter x.depth) s₁ s₁ s₂ x.rest x.end x.rest → Copied s₂ x.rest n s₂ s₃ at
         → SteppedAs W f s₃ R (record { kind = 2; place = p }) t (Length (n - (x.rest - at)))
     unfolding map_outcome unused size scope
     removed u a d = go (uses_none o.lies.rest few u)
@@ -116,25 +114,29 @@ module _ {s : List ℕ} {n p : ℕ} (g : InSomeBody s n p) {x : Couple} (c : Sea
   abbrev there : SomeCouple s p x
   there = some_couple g c e
 
-  module _ {s₁ : List ℕ} (a : Copied s x.between x.abstractor s s₁ (x.between - (x.between - p))) where
+  pub gap_moved : {s₁ : List ℕ} → s₁ ≡ paste s p (drop x.between s) (x.abstractor - x.between) → Copied s x.between x.abstractor s s₁ p
+  gap_moved q = let o = places there in moved_within (omega (arith, there.array)) (omega (arith, there.array)) q
+
+  module _ {s₁ : List ℕ} (a : Copied s x.between x.abstractor s s₁ p) where
+    -- the rest lowered
+    pub rest_lowered : {v : List ℕ} → v ≡ map (lowered_letter x.depth) (part s₁ x.rest x.end) → Mapped (lowered_letter x.depth) s₁ s₁ (put_mid x.rest (x.end - x.rest) s₁ v) x.rest x.end x.rest
+        × ((x.rest ≤ n) × (n ≤ length (put_mid x.rest (x.end - x.rest) s₁ v)) × (p + (x.abstractor - x.between) + (n - x.rest) ≤ length (put_mid x.rest (x.end - x.rest) s₁ v)))
+    rest_lowered {v} q =
+        let o = places there in
+        let m : Mapped (lowered_letter x.depth) s₁ s₁ (put_mid x.rest (x.end - x.rest) s₁ v) x.rest x.end x.rest = mapped_part (omega arith) (omega (arith, a.same_length, there.array)) q in
+        let l : length (put_mid x.rest (x.end - x.rest) s₁ v) ≡ longest_term = m.same_length ∙ a.same_length ∙ there.array in
+        (m, (omega (arith, couple_inside g c e), omega (arith, bounds g), omega (arith, bounds g)))
+
     -- what stands between has moved: the rest is where it was
-    pub moved_scope : InScope s₁ x.rest x.end x.depth
-    moved_scope = let b = in_scope there in record {
-      array = a.same_length ∙ b.array;
-      ordered = b.ordered;
-      inside = b.inside;
-      deep = λ j u v. subst (λ z. x.depth < depth_of z) (same j u) (b.deep j u v);
-    }
-      where
-        same : (j : ℕ) → x.rest ≤ j → get_or s j 0 ≡ get_or s₁ j 0
-        same j u = at_drop s j ∙ ap (λ l. get_or l 0 0) (sym (later_letters there a j (omega (arith, places there)))) ∙ sym (at_drop s₁ j)
+    pub moved_scope : InScope (part s₁ x.rest x.end) x.depth
+    moved_scope = subst (λ v. InScope v x.depth) (ap (take (x.end - x.rest)) (sym (later_letters there a x.rest (omega (arith, places there))))) (in_scope there).0
 
   module _ {r : ℕ} (q : r ≡ uses_of x.depth (part s x.rest x.end)) where
     pub still : (r ≡ 0 → ⊥) → (w : List ℕ) (f : FrameRecord) → Steps w f s s n (record { kind = 2; place = p }) (Refused 5)
     unfolding reason_number
     still u w f = record { all = λ R t y. step_refused (still_uses y (couple_of_body g c e y) (λ v. u (q ∙ v))) refl; same_length = refl }
 
-    pub gone : {s₁ s₂ s₃ : List ℕ} → r ≡ 0 → Copied s x.between x.abstractor s s₁ (x.between - (x.between - p)) → Mapped (lowered_letter x.depth) s₁ s₁ s₂ x.rest x.end x.rest
-        → Copied s₂ x.rest n s₂ s₃ (x.rest - (x.rest - (p + (x.abstractor - x.between)))) → (w : List ℕ) (f : FrameRecord)
+    pub gone : {s₁ s₂ s₃ : List ℕ} → r ≡ 0 → Copied s x.between x.abstractor s s₁ p → Mapped (lowered_letter x.depth) s₁ s₁ s₂ x.rest x.end x.rest
+        → Copied s₂ x.rest n s₂ s₃ (p + (x.abstractor - x.between)) → (w : List ℕ) (f : FrameRecord)
         → Steps w f s s₃ n (record { kind = 2; place = p }) (Length (n - (x.rest - (p + (x.abstractor - x.between)))))
     gone u a v o w f = record { all = λ R t y. removed y (couple_of_body g c e y) there a (sym q ∙ u) v o; same_length = o.same_length ∙ v.same_length ∙ a.same_length }

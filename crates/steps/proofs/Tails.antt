@@ -9,6 +9,7 @@ use native.Mathlib.Nat.{add-zero, add-suc}
 use native.Mathlib.Numerals.{add-one}
 use lib.ListN.{length, get_or, take, length-append}
 use lib.Seq.{take_at}
+use Rattle.std.specs.Prelude.{None, Some}
 use Rattle.calculus.specs.Terms.{Term, tau, var, app, abs, size, lift}
 use Rattle.calculus.specs.Steps.{no_partner, couples, Outcome, refused, map_outcome, if_far, at_partner}
 use Rattle.calculus.proofs.Lift.{lift_zero, lift_suc}
@@ -172,11 +173,11 @@ module _ {s : List ℕ} {n m h q unmatched : ℕ} (g : SomeTail s n m h) (w : Pa
     coded : {e c : ℕ} {C : Term} (t : TailLies s n m h e c C) (a : Along m C q unmatched) → Coded a.D
     coded t a = (rest_lies t a.q_is a.tail).coded
 
-    pub passed_all : x < applicator → Partnered s n m h n
+    pub passed_all : x < applicator → Partnered s n m h None
     unfolding map_outcome
     passed_all l = record {
       all = λ e c C t. let a = w.all e c C t in
-          nobody refl (λ f K. partner_along f K a.tail ∙ ap (map_outcome (instead a.tail)) (no_item f (lift a.j 0 K) a.D unmatched (omega (arith, first_is t a))));
+          nobody (λ f K. partner_along f K a.tail ∙ ap (map_outcome (instead a.tail)) (no_item f (lift a.j 0 K) a.D unmatched (omega (arith, first_is t a))));
     }
 
     pass_applicator : {r : ℕ} → x ≡ applicator → Ending s n (q + 1) (h + 1) r → Passing s n m h r (unmatched + 1)
@@ -189,10 +190,10 @@ module _ {s : List ℕ} {n m h q unmatched : ℕ} (g : SomeTail s n m h) (w : Pa
       abstraction : {e c : ℕ} {C : Term} (t : TailLies s n m h e c C) (a : Along m C q unmatched) → (U : Term) × (B : Term) × (a.D ≡ abs U B)
       abstraction t a = abstraction_is a.D (coded t a) (omega (arith, first_is t a))
 
-      pub passed_partner : unmatched ≡ 0 → Partnered s n m h q
+      pub passed_partner : unmatched ≡ 0 → Partnered s n m h (Some q)
       passed_partner z = record { all = λ e c C t. let a = w.all e c C t in go a (abstraction t a) }
         where
-          go : {C : Term} (a : Along m C q unmatched) → (U : Term) × (B : Term) × (a.D ≡ abs U B) → PartnerIs n m C q
+          go : {C : Term} (a : Along m C q unmatched) → (U : Term) × (B : Term) × (a.D ≡ abs U B) → PartnerIs m C (Some q)
           go {C} a (U, B, y) = somebody a.q_is (subst (λ u. Tail C a.place u a.j (abs U B)) z (subst (Tail C a.place unmatched a.j) y a.tail))
 
       pass_abstractor : {r : ℕ} → (unmatched ≡ 0 → ⊥) → Ending s n (q + 1) (h + 1) r → Passing s n m h r (unmatched - 1)

@@ -7,56 +7,44 @@ use mathlib.Core.List.{List, [], ◌∷◌, ◌++◌, map, append_assoc}
 use native.Mathlib.Omega.{arith}
 use native.Mathlib.Nat.{add-zero, add-suc, suc-add, sub-zero, mul-le-mul}
 use lib.ListN.{length, get_or, set, take, drop, length-append, length-map, length-set}
-use lib.Seq.{sets, take_at}
+use borrow.Rule.Slice.PartMut.{put_mid}
+use lib.Seq.{sets, length-sets, take_at}
+use Rattle.std.proofs.lemmas.List.{drop_more, drop_all}
 use lib.Dec.{eqb}
-use borrow.Author.Tests.{eq-eqb, ne_eqb}
 use Rattle.calculus.specs.Terms.{Term}
 use Rattle.code.specs.Limits.{longest_term, most_abstractors}
 use Rattle.code.specs.Scope.{scope}
 use Rattle.parts.specs.Parts.{part, Copied}
 use Rattle.parts.proofs.Cut.{length_part, part_first, part_empty}
 use Rattle.parts.proofs.Stores.{drop_sets, take_sets_end, drop_sets_start}
-use Rattle.letters.specs.Letters.{symbol_of, depth_of, height_of}
-use Rattle.bodies.specs.Moving.{lifted_letter, TermLiftable, Lifts, SomeLies, DeepestIs, Spliced}
+use Rattle.letters.specs.Letters.{symbol_of, depth_of, height_of, Lies}
+use Rattle.bodies.specs.Moving.{lifted_letter, SomeLies, DeepestIs, Spliced}
 use Rattle.bodies.proofs.Extents.{above, under, first_height}
 use Rattle.bodies.proofs.Places.{splice}
-use Rattle.steps.specs.Lowering.{lowered_letter, use_of, uses_of}
+use Rattle.steps.specs.Lowering.{lowered_letter, is_use, use_of, uses_of}
+use Rattle.steps.specs.Lifting.{LettersLiftable, LettersLifted}
 use Rattle.steps.specs.Couples.{CoupleLies, SomeCouple, remaining}
 use Rattle.steps.specs.Filling.{filled_letter, filled, filling_of, filling, use_depth, deepest_use, UsesAre, LetterFillable, LetterFills, Fillable, Fills, Rewritable}
 use Rattle.steps.specs.declared.Couple.{Couple}
 use Rattle.steps.proofs.Lowering.{Counting, counting_end}
 use Rattle.steps.proofs.Couples.{places}
 use Rattle.steps.proofs.Filling.{length_letter, filled_length}
+use Rattle.steps.proofs.Lifting.{lies_part}
+use Rattle.steps.proofs.Storing.{stored}
 
 -- ---- How often and how deep the variable is used: the loop.
-pub use_deeper : (c x : ℕ) → symbol_of x ≡ depth_of x - c → depth_of x ≡ use_depth c x
-unfolding use_depth
-use_deeper c x q = rw (eq-eqb (symbol_of x) (depth_of x - c) q)
-
-pub use_none : (c x : ℕ) → (symbol_of x ≡ depth_of x - c → ⊥) → 0 ≡ use_depth c x
-unfolding use_depth
-use_none c x q = rw (ne_eqb (symbol_of x) (depth_of x - c) q)
-
-pub record Deepening (s : List ℕ) (from to c i most : ℕ) : Type 0 where
+pub record Deepening (s : List ℕ) (c i most : ℕ) : Type 0 where
   pub small : most < 1024
-  pub result : max most (deepest_use c (part s i to)) ≡ deepest_use c (part s from to)
+  pub result : max most (deepest_use c (drop i s)) ≡ deepest_use c s
 
-depth_small : (c x : ℕ) → use_depth c x < 1024
-unfolding use_depth
-depth_small c x = go (eqb (symbol_of x) (depth_of x - c))
-  where
-    go : (b : Bool) → cond b (depth_of x) 0 < 1024
-    go true = omega arith
-    go false = omega arith
-
-module _ {s : List ℕ} {from to c i most : ℕ} (w : Deepening s from to c i most) where
-  pub deepening_next : {x : ℕ} → i < to → to ≤ length s → x ≡ max most (use_depth c (get_or s i 0)) → Deepening s from to c (i + 1) x
+module _ {s : List ℕ} {c i most : ℕ} (w : Deepening s c i most) where
+  pub deepening_next : {x : ℕ} → i < length s → x < 1024 → x ≡ use_depth c (get_or s i 0) → Deepening s c (i + 1) (max most x)
   unfolding deepest_use
-  deepening_next l n q = record { small = omega (arith, w.small, depth_small c (get_or s i 0)); result = omega (arith, w.result, ap (deepest_use c) (part_first s i to l n)) }
+  deepening_next l a q = record { small = omega (arith, w.small); result = omega (arith, w.result, ap (deepest_use c) (drop_more s i 0 l)) }
 
-  pub measured : {count : ℕ} → Counting s from to c i count → to ≤ i → UsesAre s from to c (record { count = count; deepest = most })
+  pub measured : {count : ℕ} → Counting s c i count → length s ≤ i → UsesAre s c (record { count = count; deepest = most })
   unfolding deepest_use
-  measured v l = record { count_is = counting_end v l; deepest_is = omega (arith, w.result, ap (deepest_use c) (part_empty s i to l)); small = w.small }
+  measured v l = record { count_is = counting_end v l; deepest_is = omega (arith, w.result, ap (deepest_use c) (drop_all i s l)); small = w.small }
 
 -- ---- The number of letters, and the depth of the deepest K.
 -- The most abstractors in scope of a letter of K there; the dropped one is counted.
@@ -120,6 +108,15 @@ module _ (a c low : ℕ) (v : List ℕ) (y : ℕ) where
       go true e = (refl, refl)
       go false e = absurd (e refl)
 
+-- By the answer of `is_use`.
+pub no_use : (a y : ℕ) {b : Bool} → b ≡ is_use a y → b ≡ false → use_of a y ≡ 0
+unfolding use_of
+no_use a y q e = rw (sym q ∙ e)
+
+pub some_use : (a y : ℕ) {b : Bool} → b ≡ is_use a y → b ≡ true → use_of a y ≡ 0 → ⊥
+unfolding use_of
+some_use a y q e z = let o : use_of a y ≡ 1 = rw (sym q ∙ e) in omega arith
+
 module _ {s : List ℕ} {p : ℕ} {x : Couple} {y : ℕ} {out : List ℕ} {j : ℕ} (g : LetterFillable s p x y out j) where
   abbrev low_k : ℕ
   low_k = height_of (get_or s (p + 1) 0)
@@ -147,29 +144,26 @@ module _ {s : List ℕ} {p : ℕ} {x : Couple} {y : ℕ} {out : List ℕ} {j : �
     use_few : x.outer + scope g.couple.K + (depth_of y - 1 - x.outer) ≤ most_abstractors
     use_few = omega (arith, g.few, g.inner, places g.couple, (filled_use x.depth x.outer low_k K_letters y e).1)
 
-    pub use_liftable : TermLiftable s (p + 1) x.between x.outer (depth_of y - 1 - x.outer) (height_of y) × (j + (x.between - (p + 1)) ≤ length out)
+    K_there : Lies K_letters 0 (length K_letters) x.outer (suc g.couple.h) g.couple.K
+    K_there = lies_part g.couple.lies.argument (omega (arith, places g.couple, g.couple.array))
+
+    pub use_liftable : LettersLiftable K_letters x.outer (depth_of y - 1 - x.outer) (height_of y) × (j + length K_letters ≤ length out)
     use_liftable = (
-      record {
-        array = g.couple.array;
-        low = suc g.couple.h;
-        term = g.couple.K;
-        lies = g.couple.lies.argument;
-        few = use_few;
-        high = omega (arith, g.high, use_count, places g.couple);
-      },
-      omega (arith, g.fits, use_count),
+      record { low = suc g.couple.h; term = g.couple.K; lies = K_there; few = use_few; high = omega (arith, g.high, use_count, count_k g.couple) },
+      omega (arith, g.fits, use_count, count_k g.couple),
     )
 
-    pub use_stored : {out' : List ℕ} → Lifts s out out' (p + 1) x.between x.outer (depth_of y - 1 - x.outer) (height_of y) j → LetterFills s p x y out out' j (j + (x.between - (p + 1)))
-    use_stored {out'} a =
-        let l = g.couple.lies in
-        let m = a.all (suc g.couple.h) g.couple.K l.argument use_few in
-        let q : low_k ≡ suc g.couple.h = first_height l.argument (omega (arith, l.argument_few)) in
-        record {
-          letters_there = m.letters_there ∙ ap (λ z. sets out j (map (lifted_letter x.outer (depth_of y - 1 - x.outer) (height_of y) z) K_letters)) (sym q) ∙ ap (sets out j) (sym use_is);
-          same_length = m.same_length;
-          after = ap (j +◌) (sym use_count);
-        }
+    pub use_stored : {v : List ℕ} → LettersLifted K_letters v x.outer (depth_of y - 1 - x.outer) (height_of y) → LetterFills s p x y out (put_mid j (length K_letters) out v) j (j + length K_letters)
+    use_stored {v} a = record { letters_there = now; same_length = ap length now ∙ length-sets out j (filling_of s p x y); after = omega (arith, use_count, count_k g.couple) }
+      where
+        q : low_k ≡ suc g.couple.h
+        q = first_height g.couple.lies.argument (omega (arith, g.couple.lies.argument_few))
+
+        is : v ≡ filling_of s p x y
+        is = a.all (suc g.couple.h) g.couple.K K_there use_few ∙ ap (λ z. map (lifted_letter x.outer (depth_of y - 1 - x.outer) (height_of y) z) K_letters) (sym q) ∙ sym use_is
+
+        now : put_mid j (length K_letters) out v ≡ sets out j (filling_of s p x y)
+        now = stored out v j (length K_letters) (ap length is ∙ omega (arith, use_count, count_k g.couple)) use_liftable.1 ∙ ap (sets out j) is
 
 -- ---- All letters: the loop.
 sets_both : (a b s : List ℕ) (at : ℕ) → sets (sets s at a) (at + length a) b ≡ sets s at (a ++ b)
@@ -231,7 +225,7 @@ module _ {s : List ℕ} {p : ℕ} {x : Couple} {out₀ out : List ℕ} {i j : �
   filling_end l = record { letters_there = ap (λ v. sets out j (filled x.depth x.outer (height_of (get_or s (p + 1) 0)) (part s (p + 1) x.between) v)) (sym (part_empty s i x.end l)) ∙ w.result; same_length = w.same_length }
 
 -- ---- Into the body, behind what stands between, which moves to p first.
-module _ {s s₁ : List ℕ} {p : ℕ} {x : Couple} (g : SomeCouple s p x) (c : Copied s x.between x.abstractor s s₁ (x.between - (x.between - p))) where
+module _ {s s₁ : List ℕ} {p : ℕ} {x : Couple} (g : SomeCouple s p x) (c : Copied s x.between x.abstractor s s₁ p) where
   abbrev gap : ℕ
   gap = x.abstractor - x.between
 
@@ -239,7 +233,7 @@ module _ {s s₁ : List ℕ} {p : ℕ} {x : Couple} (g : SomeCouple s p x) (c : 
   count_gap = length_part s x.between x.abstractor (omega (arith, places g, g.array))
 
   stored_gap : s₁ ≡ sets s p (remaining s x)
-  stored_gap = c.bytes ∙ ap (λ a. sets s a (remaining s x)) (omega (arith, places g))
+  stored_gap = c.bytes
 
   first_part : take (p + gap) s₁ ≡ take p s ++ remaining s x
   first_part = ap (λ y. take (p + y) s₁) (sym count_gap) ∙ ap (take (p + length (remaining s x))) stored_gap ∙ take_sets_end (remaining s x) s p (omega (arith, count_gap, places g, g.array))
@@ -259,10 +253,10 @@ module _ {s : List ℕ} {n p : ℕ} {x : Couple} {count : ℕ} (g : Rewritable s
   pub fillable : {out : List ℕ} → count ≤ length out → Fillable s p x out
   fillable l = record { couple = g.couple; few = g.few; short = omega (arith, g.fits, g.count_is); fits = omega (arith, g.count_is) }
 
-  pub gap_movable : (x.between - p ≤ x.between) × ((x.between ≤ x.abstractor) × (x.abstractor ≤ length s)) × (length s ≡ longest_term)
-  gap_movable = (omega arith, (omega (arith, places g.couple), omega (arith, places g.couple, g.couple.array)), g.couple.array)
+  pub gap_movable : (x.between ≤ x.abstractor) × (x.abstractor ≤ length s) × (p + (x.abstractor - x.between) ≤ length s)
+  gap_movable = (omega (arith, places g.couple), omega (arith, places g.couple, g.couple.array), omega (arith, places g.couple, g.couple.array))
 
-  module _ {out out' s₁ : List ℕ} (a : Fills s p x out out') (l : count ≤ length out) (c : Copied s x.between x.abstractor s s₁ (x.between - (x.between - p))) where
+  module _ {out out' s₁ : List ℕ} (a : Fills s p x out out') (l : count ≤ length out) (c : Copied s x.between x.abstractor s s₁ p) where
     abbrev at : ℕ
     at = p + (x.abstractor - x.between)
 

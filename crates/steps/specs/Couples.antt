@@ -1,6 +1,6 @@
 -- A couple of a body, on which kinds 2 and 3 work.
 -- Assumes nothing.
-use Rattle.std.specs.Prelude.{ℕ, suc, ◌+◌, ◌≤◌, ◌≡◌, List, [], ◌∷◌, ◌++◌, length}
+use Rattle.std.specs.Prelude.{ℕ, suc, ◌+◌, ◌≤◌, ◌≡◌, Option, None, Some, List, [], ◌∷◌, ◌++◌, length}
 use Rattle.calculus.specs.Terms.{Term, app, abs, size}
 use Rattle.calculus.specs.Frames.{Frame, depth}
 use Rattle.calculus.specs.Steps.{Reason, no_partner, couples, Outcome, refused, at_partner, step}
@@ -56,13 +56,13 @@ pub record SomeTail (s : List ℕ) (n m h : ℕ) : Type 0 where
   pub C : Term
   pub tail : TailLies s n m h e c C
 
--- The abstractor that matches an applicator before it, or n.
-pub data PartnerIs (n m : ℕ) (C : Term) : ℕ → Type 0 where
-  nobody : {a : ℕ} → a ≡ n → ((f : Term → Term → Outcome) (K : Term) → at_partner couples f K C 0 ≡ refused no_partner) → PartnerIs n m C a
-  somebody : {a q j : ℕ} {U B : Term} → a ≡ m + q → Tail C q 0 j (abs U B) → PartnerIs n m C a
+-- The abstractor that matches an applicator before it, if there is one.
+pub data PartnerIs (m : ℕ) (C : Term) : Option ℕ → Type 0 where
+  nobody : ((f : Term → Term → Outcome) (K : Term) → at_partner couples f K C 0 ≡ refused no_partner) → PartnerIs m C None
+  somebody : {a q j : ℕ} {U B : Term} → a ≡ m + q → Tail C q 0 j (abs U B) → PartnerIs m C (Some a)
 
-pub record Partnered (s : List ℕ) (n m h r : ℕ) : Type 0 where
-  pub all : (e c : ℕ) (C : Term) → TailLies s n m h e c C → PartnerIs n m C r
+pub record Partnered (s : List ℕ) (n m h : ℕ) (r : Option ℕ) : Type 0 where
+  pub all : (e c : ℕ) (C : Term) → TailLies s n m h e c C → PartnerIs m C r
 
 -- ---- The couple.
 -- ⟨K⟩..[U]B lies from p on where x says, with j abstractors between and d entries of a frame before the body; its first letter has height h.

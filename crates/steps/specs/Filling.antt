@@ -1,13 +1,13 @@
 -- The rest of a couple with the couple's K, lifted, for each use of its variable: the letters of a whole substitution (request (a)).
 -- Assumes nothing.
-use Rattle.std.specs.Prelude.{ℕ, suc, ◌+◌, ◌-◌, ◌≤◌, ◌<◌, max, ◌≡◌, cond, List, [], ◌∷◌, ◌++◌, map, eqb, length, get_or}
+use Rattle.std.specs.Prelude.{ℕ, suc, ◌+◌, ◌-◌, ◌≤◌, ◌<◌, max, ◌≡◌, cond, List, [], ◌∷◌, ◌++◌, map, length, get_or}
 use Rattle.std.proofs.lemmas.List.Edits.{sets}
 use Rattle.code.specs.Limits.{longest_term, most_abstractors}
 use Rattle.code.specs.Scope.{scope}
 use Rattle.parts.specs.Parts.{part}
-use Rattle.letters.specs.Letters.{depths, symbol_of, depth_of, height_of}
+use Rattle.letters.specs.Letters.{depths, depth_of, height_of}
 use Rattle.bodies.specs.Moving.{lifted_letter}
-use Rattle.steps.specs.Lowering.{lowered_letter, uses_of}
+use Rattle.steps.specs.Lowering.{lowered_letter, is_use, uses_of}
 use Rattle.steps.specs.Couples.{SomeCouple}
 use Rattle.steps.specs.declared.Couple.{Couple}
 use Rattle.steps.specs.declared.Uses.{Uses}
@@ -15,7 +15,7 @@ use Rattle.steps.specs.declared.Uses.{Uses}
 -- What becomes of the letter x in the scope of a dropped abstractor of depth a: a use becomes the letters v of K, lifted past all
 -- abstractors since, whose first has depth c and height low.
 unfoldable pub filled_letter : (a c low : ℕ) → List ℕ → ℕ → List ℕ
-filled_letter a c low v x = cond (eqb (symbol_of x) (depth_of x - a)) (map (lifted_letter c (depth_of x - 1 - c) (height_of x) low) v) (lowered_letter a x ∷ [])
+filled_letter a c low v x = cond (is_use a x) (map (lifted_letter c (depth_of x - 1 - c) (height_of x) low) v) (lowered_letter a x ∷ [])
 
 unfoldable pub filled : (a c low : ℕ) → List ℕ → List ℕ → List ℕ
 unfolding filled_letter
@@ -31,7 +31,7 @@ filling s p x = filled x.depth x.outer (height_of (get_or s (p + 1) 0)) (part s 
 
 -- The depth of the deepest use, 0 if there is none.
 unfoldable pub use_depth : ℕ → ℕ → ℕ
-use_depth c x = cond (eqb (symbol_of x) (depth_of x - c)) (depth_of x) 0
+use_depth c x = cond (is_use c x) (depth_of x) 0
 
 unfoldable pub deepest_use : ℕ → List ℕ → ℕ
 unfolding use_depth
@@ -39,9 +39,9 @@ deepest_use c [] = 0
 deepest_use c (x ∷ s) = max (use_depth c x) (deepest_use c s)
 
 -- The uses of the variable of an abstractor of depth c in its scope.
-pub record UsesAre (s : List ℕ) (from e c : ℕ) (r : Uses) : Type 0 where
-  pub count_is : r.count ≡ uses_of c (part s from e)
-  pub deepest_is : r.deepest ≡ deepest_use c (part s from e)
+pub record UsesAre (s : List ℕ) (c : ℕ) (r : Uses) : Type 0 where
+  pub count_is : r.count ≡ uses_of c s
+  pub deepest_is : r.deepest ≡ deepest_use c s
   pub small : r.deepest < depths
 
 -- The letter fits into `out` from j on, and is not too deep or too high.

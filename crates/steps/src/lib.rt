@@ -1,21 +1,21 @@
 // Steps on a body held as letters, after a frame (document 01, 'Steps'; requests (a) and (d)).
 #![tactic(auto)]
 
-ghost use Rattle.std.specs.Prelude.{◌≡◌, List, ◌++◌, ℕ, ◌+◌, ◌-◌, ◌≤◌, ◌<◌, max, length};
+ghost use Rattle.std.specs.Prelude.{◌≡◌, List, ◌++◌, map, ℕ, ◌+◌, ◌-◌, ◌≤◌, ◌<◌, length};
 ghost use Rattle.code.specs.Limits.{longest_term};
 ghost use Rattle.frames.specs.declared.FrameRecord.{FrameRecord as Record};
 ghost use Rattle.frames.specs.Stored.{record_of};
 ghost use Rattle.letters.specs.Letters.{depth_of};
-ghost use Rattle.parts.specs.Parts.{part, Copied};
 ghost use Rattle.bodies.specs.Held.{SomeHeld, Steps};
-ghost use Rattle.bodies.specs.Moving.{Mapped, TermLiftable, Lifts, Spliced};
-ghost use Rattle.steps.specs.Lowering.{lowered_letter, use_of, InScope};
+ghost use Rattle.bodies.specs.Moving.{Spliced};
+ghost use Rattle.steps.specs.Lowering.{lowered_letter, is_use, InScope};
+ghost use Rattle.steps.specs.Lifting.{LettersLiftable, LettersLifted};
 ghost use Rattle.steps.specs.Couples.{InSomeBody, InBodyAfter, SomeTail, Partnered, remaining, Searches};
 ghost use Rattle.steps.specs.Filling.{use_depth, UsesAre, filling, LetterFillable, LetterFills, Fillable, Fills, Rewritable};
 
 use bodies::{
     Form, NO_PARTNER, PAST_END, STILL_USED, UNKNOWN_KIND, WRONG_SYMBOL, deepest, end_of,
-    lifted_letter, local, move_left, move_right, narrow,
+    lifted_letter, local, narrow,
 };
 use code::numbers::{LONGEST_TERM, MOST_ABSTRACTORS};
 use frames::{Starts, Work};
@@ -49,9 +49,9 @@ fn no_couple(reason: u32) -> Couple
     }
 }
 
-// The place of the abstractor that matches an applicator of height h, where the train goes on at m behind its K; n if there is none. Of the
+// The place of the abstractor that matches an applicator of height h, where the train goes on at m behind its K, if there is one. Of the
 // applicators passed, `unmatched` are still to be matched.
-fn abstractor_after(s: &Letters, n: usize, m: usize, h: usize) -> usize
+fn abstractor_after(s: &Letters, n: usize, m: usize, h: usize) -> Option<usize>
     requires { SomeTail s.now n m h }
     ensures { Partnered s.now n m h result }
 {
@@ -63,14 +63,14 @@ fn abstractor_after(s: &Letters, n: usize, m: usize, h: usize) -> usize
             unmatched += 1;
         } else {
             if unmatched == 0 {
-                return q;
+                return Some(q);
             }
             unmatched -= 1;
         }
         q = end_of(s, n, q + 1, h + 1);
         symbol = symbol_of(s[q]);
     }
-    n
+    None
 }
 
 // The couple at place p of the body in the first n letters.
@@ -84,10 +84,9 @@ fn couple_at(s: &Letters, n: usize, p: usize) -> Couple
     }
     let h = height_of(v);
     let m = end_of(s, n, p + 1, h + 1);
-    let a = abstractor_after(s, n, m, h);
-    if a == n {
+    let Some(a) = abstractor_after(s, n, m, h) else {
         return no_couple(NO_PARTNER);
-    }
+    };
     let q = end_of(s, n, a + 1, h + 1);
     let e = end_of(s, n, q, h);
     Couple {
@@ -124,60 +123,44 @@ fn lowered_letter(x: u32, c: u32) -> u32
     x - 1025
 }
 
-// The letters from `from` up to `to` are lowered.
-fn lower_part(s: &mut Letters, from: usize, to: usize, c: u32)
-    requires { InScope s.old from to c }
-    ensures { Mapped (lowered_letter c) s.old s.old s.new from to from }
+// Letters in that scope are lowered.
+fn lower_part(rest: &mut [u32], c: u32)
+    requires { InScope rest.old c }
+    ensures { rest.new ≡ map (lowered_letter c) rest.old }
 {
-    let mut i = from;
-    while i < to {
-        s[i] = lowered_letter(s[i], c);
-        i += 1;
+    for x in rest.iter_mut() {
+        *x = lowered_letter(*x, c);
     }
 }
 
-// 1 if the letter x is a use of the variable of an abstractor of depth c, else 0.
-fn use_of(x: u32, c: u32) -> u32
+// Whether the letter x is a use of the variable of an abstractor of depth c.
+fn is_use(x: u32, c: u32) -> bool
     requires { c < depth_of x }
-    ensures { (result ≡ use_of c x) × (result ≤ 1) }
+    ensures { result ≡ is_use c x }
 {
-    if x % 1024 == x / 1024 % 1024 - c {
-        1
-    } else {
-        0
-    }
+    x % 1024 == x / 1024 % 1024 - c
 }
 
-// The larger of `most` and the depth of the letter x, if x is a use of the variable of an abstractor of depth c.
-fn deeper_use(most: u32, x: u32, c: u32) -> u32
+// The depth of such a use, else 0.
+fn use_depth(x: u32, c: u32) -> u32
     requires { c < depth_of x }
-    ensures { result ≡ max most (use_depth c x) }
+    ensures { (result ≡ use_depth c x) × (result < 1024) }
 {
-    let d = x / 1024 % 1024;
-    if x % 1024 != d - c {
-        return most;
-    }
-    if most < d { d } else { most }
+    if is_use(x, c) { x / 1024 % 1024 } else { 0 }
 }
 
-// The uses of the variable of an abstractor of depth c from `from` up to `to`, by one pass.
-fn measure(s: &Letters, from: usize, to: usize, c: u32) -> Uses
-    requires { InScope s.now from to c }
-    ensures { UsesAre s.now from to c result }
+// The uses of the variable of an abstractor of depth c in its scope, by one pass.
+fn measure(rest: &[u32], c: u32) -> Uses
+    requires { InScope rest.now c × (length rest.now ≤ longest_term) }
+    ensures { UsesAre rest.now c result }
 {
     let mut count: u32 = 0;
-    let mut most: u32 = 0;
-    let mut i = from;
-    while i < to {
-        let x = s[i];
-        count += use_of(x, c);
-        most = deeper_use(most, x, c);
-        i += 1;
+    let mut deepest: u32 = 0;
+    for x in rest {
+        count += u32::from(is_use(*x, c));
+        deepest = deepest.max(use_depth(*x, c));
     }
-    Uses {
-        count: count,
-        deepest: most,
-    }
+    Uses { count, deepest }
 }
 
 // ---- A removal.
@@ -196,32 +179,27 @@ fn removal(s: &mut Letters, n: usize, p: usize) -> Form
     let a = x.abstractor;
     let q = x.rest;
     let e = x.end;
-    let u = measure(s, q, e, c);
+    let u = measure(&s[q..e], c);
     let count = u.count;
     if count > 0 {
         return Form::Refused(STILL_USED);
     }
-    move_left(s, m, a, m - p);
-    lower_part(s, q, e, c);
-    let by = q - (p + (a - m));
-    move_left(s, q, n, by);
-    Form::Length(n - by)
+    s.copy_within(m..a, p);
+    lower_part(&mut s[q..e], c);
+    let at = p + (a - m);
+    s.copy_within(q..n, at);
+    Form::Length(n - (q - at))
 }
 
 // ---- The whole substitution.
-// The term that lies in s from `from` up to `to`, where its first letter has depth c, goes lifted by k to `out` from `at` on, where its
-// first letter has height h.
-fn lift_to(s: &Letters, from: usize, to: usize, c: u32, k: u32, h: u32, out: &mut [u32], at: usize)
-    requires { TermLiftable s.now from to c k h × (at + (to - from) ≤ length out.old) }
-    ensures { Lifts s.now out.old out.new from to c k h at }
+// The letters of a term, the first of which has depth c, go lifted by k to `out`, where the first has height h.
+fn lift_to(term: &[u32], c: u32, k: u32, h: u32, out: &mut [u32])
+    requires { LettersLiftable term.now c k h × (length out.old ≡ length term.now) }
+    ensures { LettersLifted term.now out.new c k h }
 {
-    let low = narrow(height_of(s[from]));
-    let mut i = from;
-    let mut j = at;
-    while i < to {
-        out[j] = lifted_letter(s[i], c, k, h, low);
-        i += 1;
-        j += 1;
+    let low = narrow(height_of(term[0]));
+    for (i, x) in term.iter().enumerate() {
+        out[i] = lifted_letter(*x, c, k, h, low);
     }
 }
 
@@ -231,15 +209,16 @@ fn fill_letter(s: &Letters, p: usize, x: Couple, y: u32, out: &mut [u32], j: usi
     ensures { LetterFills s.now p x y out.old out.new j result }
 {
     let c = x.depth;
-    if use_of(y, c) == 0 {
+    if !is_use(y, c) {
         out[j] = lowered_letter(y, c);
         return j + 1;
     }
-    let m = x.between;
     let o = x.outer;
     let k = narrow(depth_of(y)) - 1 - o;
-    lift_to(s, p + 1, m, o, k, narrow(height_of(y)), out, j);
-    j + (m - (p + 1))
+    let argument = &s[p + 1..x.between];
+    let end = j + argument.len();
+    lift_to(argument, o, k, narrow(height_of(y)), &mut out[j..end]);
+    end
 }
 
 // All of B goes to `out` so.
@@ -247,38 +226,9 @@ fn fill(s: &Letters, p: usize, x: Couple, out: &mut [u32])
     requires { Fillable s.now p x out.old }
     ensures { Fills s.now p x out.old out.new }
 {
-    let e = x.end;
-    let mut i = x.rest;
-    let mut j: usize = 0;
-    while i < e {
-        j = fill_letter(s, p, x, s[i], out, j);
-        i += 1;
-    }
-}
-
-// The letters from `from` up to `to` move to `at`.
-fn move_part(s: &mut Letters, from: usize, to: usize, at: usize)
-    requires { (from ≤ to) × (to ≤ length s.old) × (at + (to - from) ≤ length s.old) × (length s.old ≡ longest_term) }
-    ensures { Copied s.old from to s.old s.new at }
-{
-    if at < from {
-        move_left(s, from, to, from - at);
-        return;
-    }
-    move_right(s, from, to, at - from);
-}
-
-// The first n letters of `out` go to s from `at` on.
-fn copy_start(out: &[u32], n: usize, s: &mut Letters, at: usize)
-    requires { (n ≤ length out.now) × (at + n ≤ length s.old) × (length s.old ≡ longest_term) }
-    ensures { Copied out.now 0 n s.old s.new at }
-{
-    let mut i: usize = 0;
-    let mut j = at;
-    while i < n {
-        s[j] = out[i];
-        i += 1;
-        j += 1;
+    let mut j = 0;
+    for y in &s[x.rest..x.end] {
+        j = fill_letter(s, p, x, *y, out, j);
     }
 }
 
@@ -288,13 +238,11 @@ fn rewrite(s: &mut Letters, n: usize, p: usize, x: Couple, size: usize, out: &mu
     requires { Rewritable s.old n p x size × (size ≤ length out.old) }
     ensures { Spliced s.old s.new n p x.end (remaining s.old x ++ filling s.old p x) }
 {
-    let m = x.between;
-    let a = x.abstractor;
-    let at = p + (a - m);
+    let at = p + (x.abstractor - x.between);
     fill(s, p, x, out);
-    move_left(s, m, a, m - p);
-    move_part(s, x.end, n, at + size);
-    copy_start(out, size, s, at);
+    s.copy_within(x.between..x.abstractor, p);
+    s.copy_within(x.end..n, at + size);
+    s[at..at + size].copy_from_slice(&out[..size]);
 }
 
 // As `rewrite`: a small result needs no large array to be cleared.
@@ -327,7 +275,7 @@ fn whole(s: &mut Letters, n: usize, p: usize, len: usize) -> Form
     let a = x.abstractor;
     let q = x.rest;
     let e = x.end;
-    let u = measure(s, q, e, c);
+    let u = measure(&s[q..e], c);
     let count = u.count;
     let most = u.deepest;
     let kept = n - (e - p) + (a - m);

@@ -17,27 +17,27 @@ returns-then-symbol_of-ne-APPLICATOR c = wrong c.requires c.symbol_of.ensures.0 
 pub end_of-m-requires : goal.end_of-m-requires
 end_of-m-requires c = bounds c.requires
 
-pub abstractor_after-a-requires : goal.abstractor_after-a-requires
-abstractor_after-a-requires c = some_tail c.requires (sym c.symbol_of.ensures.0 ∙ c.if-symbol_of-ne-APPLICATOR.false) c.height_of-h.ensures.0 c.end_of-m.ensures
+pub abstractor_after-requires : goal.abstractor_after-requires
+abstractor_after-requires c = some_tail c.requires (sym c.symbol_of.ensures.0 ∙ c.if-symbol_of-ne-APPLICATOR.false) c.height_of-h.ensures.0 c.end_of-m.ensures
 
-pub returns-then-a-n : goal.returns-then-a-n
-returns-then-a-n c = alone c.requires (sym c.symbol_of.ensures.0 ∙ c.if-symbol_of-ne-APPLICATOR.false) c.height_of-h.ensures.0 c.end_of-m.ensures c.abstractor_after-a.ensures c.if-a-n.true c.no_couple-then-a-n.ensures
+pub returns-in_default : goal.returns-in_default
+returns-in_default c = alone c.requires (sym c.symbol_of.ensures.0 ∙ c.if-symbol_of-ne-APPLICATOR.false) c.height_of-h.ensures.0 c.end_of-m.ensures c.in_default.ensures c.no_couple-in_default.ensures
 
 pub overflow_add-a : goal.overflow_add-a
-overflow_add-a c = omega (arith, bounds c.requires, partner_inside c.requires (sym c.symbol_of.ensures.0 ∙ c.if-symbol_of-ne-APPLICATOR.false) c.height_of-h.ensures.0 c.end_of-m.ensures c.abstractor_after-a.ensures c.if-a-n.false)
+overflow_add-a c = omega (arith, bounds c.requires, partner_inside c.requires (sym c.symbol_of.ensures.0 ∙ c.if-symbol_of-ne-APPLICATOR.false) c.height_of-h.ensures.0 c.end_of-m.ensures c.in-Some.ensures)
 
 pub end_of-q-requires : goal.end_of-q-requires
-end_of-q-requires c = let b = bounds c.requires in (b.0, b.1, omega (arith, partner_inside c.requires (sym c.symbol_of.ensures.0 ∙ c.if-symbol_of-ne-APPLICATOR.false) c.height_of-h.ensures.0 c.end_of-m.ensures c.abstractor_after-a.ensures c.if-a-n.false))
+end_of-q-requires c = let b = bounds c.requires in (b.0, b.1, omega (arith, partner_inside c.requires (sym c.symbol_of.ensures.0 ∙ c.if-symbol_of-ne-APPLICATOR.false) c.height_of-h.ensures.0 c.end_of-m.ensures c.in-Some.ensures))
 
 pub end_of-e-requires : goal.end_of-e-requires
 end_of-e-requires c = let b = bounds c.requires in (b.0, b.1, c.end_of-q.ensures.inside)
 
 pub offset_bounds-s-a : goal.offset_bounds-s-a
-offset_bounds-s-a c = omega (arith, bounds c.requires, partner_inside c.requires (sym c.symbol_of.ensures.0 ∙ c.if-symbol_of-ne-APPLICATOR.false) c.height_of-h.ensures.0 c.end_of-m.ensures c.abstractor_after-a.ensures c.if-a-n.false)
+offset_bounds-s-a c = omega (arith, bounds c.requires, partner_inside c.requires (sym c.symbol_of.ensures.0 ∙ c.if-symbol_of-ne-APPLICATOR.false) c.height_of-h.ensures.0 c.end_of-m.ensures c.in-Some.ensures)
 
 pub bounds-s-a : goal.bounds-s-a
-bounds-s-a c = omega (arith, bounds c.requires, partner_inside c.requires (sym c.symbol_of.ensures.0 ∙ c.if-symbol_of-ne-APPLICATOR.false) c.height_of-h.ensures.0 c.end_of-m.ensures c.abstractor_after-a.ensures c.if-a-n.false)
+bounds-s-a c = omega (arith, bounds c.requires, partner_inside c.requires (sym c.symbol_of.ensures.0 ∙ c.if-symbol_of-ne-APPLICATOR.false) c.height_of-h.ensures.0 c.end_of-m.ensures c.in-Some.ensures)
 
 pub returns : goal.returns
-returns c = couple_found c.requires (sym c.symbol_of.ensures.0 ∙ c.if-symbol_of-ne-APPLICATOR.false) c.height_of-h.ensures.0 c.end_of-m.ensures c.abstractor_after-a.ensures c.if-a-n.false c.end_of-q.ensures c.end_of-e.ensures
+returns c = couple_found c.requires (sym c.symbol_of.ensures.0 ∙ c.if-symbol_of-ne-APPLICATOR.false) c.height_of-h.ensures.0 c.end_of-m.ensures c.in-Some.ensures c.end_of-q.ensures c.end_of-e.ensures
     (c.narrow.ensures ∙ c.depth_of.ensures.0) (c.narrow-2.ensures ∙ c.depth_of-2.ensures.0)

@@ -1,27 +1,26 @@
 -- `steps::fill` meets its contract: the loop is `Filling` of Writing.antt.
 -- Assumes nothing.
 use native.Mathlib.Omega.{arith}
-use Rattle.steps.proofs.Couples.{places}
-use Rattle.steps.proofs.Writing.{filling_start, letter_fillable, filling_next, filling_end}
+use native.Mathlib.Nat.{add_assoc}
+use Rattle.parts.proofs.Cut.{length_part}
+use Rattle.steps.proofs.Couples.{places, part_letter}
+use Rattle.steps.proofs.Writing.{letter_fillable, filling_next, filling_end}
 use Rattle.steps.proofs.fill.Goals as goal
 
-pub loop-i-init : goal.loop-i-init
-loop-i-init c = filling_start
+pub offset_bounds-s-x : goal.offset_bounds-s-x
+offset_bounds-s-x c = omega (arith, places c.requires.couple)
 
-pub offset_bounds-s-i : goal.offset_bounds-s-i
-offset_bounds-s-i c = omega (arith, places c.requires.couple)
-
-pub bounds-s-i : goal.bounds-s-i
-bounds-s-i c = omega (arith, places c.requires.couple)
+pub slice_bounds-y-items-end : goal.slice_bounds-y-items-end
+slice_bounds-y-items-end c = omega (arith, places c.requires.couple, c.requires.couple.array)
 
 pub fill_letter-j-requires : goal.fill_letter-j-requires
-fill_letter-j-requires c = letter_fillable c.requires c.loop-i.invariant c.loop-i-test.true
+fill_letter-j-requires c = let g = c.requires.couple in let o = places g in
+    rw (part_letter c.args.s.now c.args.x.rest c.args.x.end c.loop-y.y-index (omega arith) (omega (arith, g.array))) (letter_fillable c.requires c.loop-y.invariant (omega (arith, length_part c.args.s.now c.args.x.rest c.args.x.end (omega (arith, g.array)))))
 
-pub loop-i-preserved : goal.loop-i-preserved
-loop-i-preserved c = filling_next c.requires c.loop-i.invariant c.loop-i-test.true c.fill_letter-j.ensures
-
-pub shape_of-out : goal.shape_of-out
-shape_of-out c = c.loop-i.invariant.same_length
+pub loop-y-preserved : goal.loop-y-preserved
+loop-y-preserved c = let g = c.requires.couple in let o = places g in
+    rw (← add_assoc c.args.x.rest c.loop-y.y-index 1) (filling_next c.requires c.loop-y.invariant (omega (arith, length_part c.args.s.now c.args.x.rest c.args.x.end (omega (arith, g.array))))
+    (rw (part_letter c.args.s.now c.args.x.rest c.args.x.end c.loop-y.y-index (omega arith) (omega (arith, g.array))) at c.fill_letter-j.ensures))
 
 pub returns : goal.returns
-returns c = filling_end c.requires c.loop-i.invariant c.loop-i-test.false
+returns c = filling_end c.requires c.loop-y.invariant (omega (arith, length_part c.args.s.now c.args.x.rest c.args.x.end (omega (arith, places c.requires.couple, c.requires.couple.array))))

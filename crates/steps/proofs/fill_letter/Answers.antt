@@ -1,31 +1,32 @@
 -- `steps::fill_letter` meets its contract: by its laws of Writing.antt.
 -- Assumes nothing.
 use native.Mathlib.Omega.{arith}
-use mathlib.Core.Path.{◌∙◌, sym}
+use Prim.Native.Nat.{◌+◌, ◌-◌}
+use mathlib.Core.Path.{◌≡◌, ◌∙◌}
+use lib.ListN.{length}
+use Rattle.parts.specs.Parts.{part}
+use Rattle.parts.proofs.Cut.{length_part}
 use Rattle.steps.proofs.Couples.{places}
-use Rattle.steps.proofs.Writing.{other_fits, other_stored, use_liftable, use_stored}
+use Rattle.steps.proofs.Writing.{no_use, some_use, other_fits, other_stored, use_liftable, use_stored}
 use Rattle.steps.proofs.fill_letter.Goals as goal
 
-pub use_of-requires : goal.use_of-requires
-use_of-requires c = c.requires.inner
+pub is_use-requires : goal.is_use-requires
+is_use-requires c = c.requires.inner
 
 pub lowered_letter-requires : goal.lowered_letter-requires
 lowered_letter-requires c = c.requires.inner
 
 pub offset_bounds-out-j : goal.offset_bounds-out-j
-offset_bounds-out-j c = omega (arith, other_fits c.requires (sym c.use_of.ensures.0 ∙ c.if-use_of-eq0.true))
+offset_bounds-out-j c = omega (arith, other_fits c.requires (no_use _ _ c.is_use.ensures c.if-not-is_use.true))
 
 pub bounds-out-j : goal.bounds-out-j
-bounds-out-j c = omega (arith, other_fits c.requires (sym c.use_of.ensures.0 ∙ c.if-use_of-eq0.true))
+bounds-out-j c = omega (arith, other_fits c.requires (no_use _ _ c.is_use.ensures c.if-not-is_use.true))
 
 pub overflow_add-result : goal.overflow_add-result
-overflow_add-result c = omega (arith, other_fits c.requires (sym c.use_of.ensures.0 ∙ c.if-use_of-eq0.true))
+overflow_add-result c = omega (arith, other_fits c.requires (no_use _ _ c.is_use.ensures c.if-not-is_use.true))
 
-pub shape_of-out-then-use_of-eq0 : goal.shape_of-out-then-use_of-eq0
-shape_of-out-then-use_of-eq0 c = (other_stored c.requires (sym c.use_of.ensures.0 ∙ c.if-use_of-eq0.true) c.lowered_letter.ensures).same_length
-
-pub returns-then-use_of-eq0 : goal.returns-then-use_of-eq0
-returns-then-use_of-eq0 c = other_stored c.requires (sym c.use_of.ensures.0 ∙ c.if-use_of-eq0.true) c.lowered_letter.ensures
+pub returns-then-not-is_use : goal.returns-then-not-is_use
+returns-then-not-is_use c = other_stored c.requires (no_use _ _ c.is_use.ensures c.if-not-is_use.true) c.lowered_letter.ensures
 
 pub overflow_sub-k : goal.overflow_sub-k
 overflow_sub-k c = omega (arith, places c.requires.couple, c.requires.inner, c.narrow.ensures, c.depth_of.ensures.0)
@@ -33,23 +34,20 @@ overflow_sub-k c = omega (arith, places c.requires.couple, c.requires.inner, c.n
 pub overflow_sub-k-2 : goal.overflow_sub-k-2
 overflow_sub-k-2 c = omega (arith, places c.requires.couple, c.requires.inner, c.narrow.ensures, c.depth_of.ensures.0)
 
-pub overflow_add-p : goal.overflow_add-p
-overflow_add-p c = omega (arith, places c.requires.couple)
+pub offset_bounds-s-p : goal.offset_bounds-s-p
+offset_bounds-s-p c = omega (arith, places c.requires.couple)
+
+pub slice_bounds-argument-end : goal.slice_bounds-argument-end
+slice_bounds-argument-end c = omega (arith, places c.requires.couple, c.requires.couple.array)
+
+pub slice_bounds-lift_to-end : goal.slice_bounds-lift_to-end
+slice_bounds-lift_to-end c = omega (arith, (use_liftable c.requires (some_use _ _ c.is_use.ensures c.if-not-is_use.false)).1)
 
 pub lift_to-requires : goal.lift_to-requires
-lift_to-requires c = rw (c.narrow.ensures, c.depth_of.ensures.0, c.narrow-2.ensures, c.height_of.ensures.0) (use_liftable c.requires (λ e. c.if-use_of-eq0.false (c.use_of.ensures.0 ∙ e)))
-
-pub overflow_add-result-2 : goal.overflow_add-result-2
-overflow_add-result-2 c = omega (arith, places c.requires.couple)
-
-pub overflow_sub-result : goal.overflow_sub-result
-overflow_sub-result c = omega (arith, places c.requires.couple)
-
-pub overflow_add-result-3 : goal.overflow_add-result-3
-overflow_add-result-3 c = omega (arith, (use_liftable c.requires (λ e. c.if-use_of-eq0.false (c.use_of.ensures.0 ∙ e))).1)
-
-pub shape_of-out : goal.shape_of-out
-shape_of-out c = c.lift_to.ensures.same_length
+lift_to-requires c = let l = use_liftable c.requires (some_use _ _ c.is_use.ensures c.if-not-is_use.false) in
+    rw (c.narrow.ensures, c.depth_of.ensures.0, c.narrow-2.ensures, c.height_of.ensures.0) (l.0, length_part c.args.out.now c.args.j _ l.1 ∙ omega arith)
 
 pub returns : goal.returns
-returns c = use_stored c.requires (λ e. c.if-use_of-eq0.false (c.use_of.ensures.0 ∙ e)) (rw (c.narrow.ensures, c.depth_of.ensures.0, c.narrow-2.ensures, c.height_of.ensures.0) at c.lift_to.ensures)
+returns c =
+    let e : c.args.j + length (part c.args.s.now (c.args.p + 1) c.args.x.between) - c.args.j ≡ length (part c.args.s.now (c.args.p + 1) c.args.x.between) = omega arith in
+    rw e (use_stored c.requires (some_use _ _ c.is_use.ensures c.if-not-is_use.false) (rw (c.narrow.ensures, c.depth_of.ensures.0, c.narrow-2.ensures, c.height_of.ensures.0) at c.lift_to.ensures))

@@ -2,6 +2,7 @@
 -- Assumes nothing.
 use native.Mathlib.Omega.{arith}
 use Rattle.steps.proofs.Couples.{places}
+use Rattle.steps.proofs.Storing.{moved_within, copied_start}
 use Rattle.steps.proofs.Writing.{fillable, gap_movable, movable, copyable, rewritten}
 use Rattle.steps.proofs.rewrite.Goals as goal
 
@@ -14,23 +15,32 @@ overflow_add-at c = omega (arith, places c.requires.0.couple)
 pub fill-requires : goal.fill-requires
 fill-requires c = fillable c.requires.0 c.requires.1
 
-pub overflow_sub-m : goal.overflow_sub-m
-overflow_sub-m c = omega (arith, places c.requires.0.couple)
+pub copy_within-requires-clause-start_le_end : goal.copy_within-requires-clause-start_le_end
+copy_within-requires-clause-start_le_end c = (gap_movable c.requires.0).0
 
-pub move_left-requires : goal.move_left-requires
-move_left-requires c = gap_movable c.requires.0
+pub copy_within-requires-clause-in_bounds : goal.copy_within-requires-clause-in_bounds
+copy_within-requires-clause-in_bounds c = (gap_movable c.requires.0).1
+
+pub copy_within-requires-clause-dest_in_bounds : goal.copy_within-requires-clause-dest_in_bounds
+copy_within-requires-clause-dest_in_bounds c = (gap_movable c.requires.0).2
 
 pub overflow_add-at-2 : goal.overflow_add-at-2
 overflow_add-at-2 c = omega (arith, c.requires.0.fits)
 
-pub move_part-requires : goal.move_part-requires
-move_part-requires c = movable c.requires.0 c.fill.ensures c.requires.1 c.move_left.ensures
+pub copy_within-requires-2-clause-start_le_end : goal.copy_within-requires-2-clause-start_le_end
+copy_within-requires-2-clause-start_le_end c = c.requires.0.inside
 
-pub copy_start-requires : goal.copy_start-requires
-copy_start-requires c = copyable c.requires.0 c.fill.ensures c.requires.1 c.move_left.ensures c.move_part.ensures
+pub copy_within-requires-2-clause-in_bounds : goal.copy_within-requires-2-clause-in_bounds
+copy_within-requires-2-clause-in_bounds c = let g = gap_movable c.requires.0 in (movable c.requires.0 c.fill.ensures c.requires.1 (moved_within g.1 g.2 c.copy_within.ensures.after)).1
 
-pub shape_of-out : goal.shape_of-out
-shape_of-out c = c.fill.ensures.same_length
+pub copy_within-requires-2-clause-dest_in_bounds : goal.copy_within-requires-2-clause-dest_in_bounds
+copy_within-requires-2-clause-dest_in_bounds c = let g = gap_movable c.requires.0 in (movable c.requires.0 c.fill.ensures c.requires.1 (moved_within g.1 g.2 c.copy_within.ensures.after)).2
 
 pub returns : goal.returns
-returns c = rewritten c.requires.0 c.fill.ensures c.requires.1 c.move_left.ensures c.move_part.ensures c.copy_start.ensures
+returns c =
+    let g = gap_movable c.requires.0 in
+    let gap = moved_within g.1 g.2 c.copy_within.ensures.after in
+    let m = movable c.requires.0 c.fill.ensures c.requires.1 gap in
+    let tail = moved_within m.1 m.2 c.copy_within-2.ensures.after in
+    let b = copyable c.requires.0 c.fill.ensures c.requires.1 gap tail in
+    rewritten c.requires.0 c.fill.ensures c.requires.1 gap tail (copied_start b.0 b.1 (omega arith) c.copy_from_slice.ensures.after)

@@ -81,3 +81,15 @@ overflow_add-result c = omega (arith, c.if-kept-size-gt-LONGEST_TERM.false)
 
 pub returns : goal.returns
 returns c = done c.requires c.couple_at-x.ensures (omega (arith, c.if-reason-gt0.false)) (size_is (the_couple c.requires c.couple_at-x.ensures (omega (arith, c.if-reason-gt0.false))) (c.wide.ensures ∙ c.measure-u.ensures.count_is)) (depth_is (the_couple c.requires c.couple_at-x.ensures (omega (arith, c.if-reason-gt0.false))) c.deepest.ensures c.measure-u.ensures.deepest_is) c.if-kept-size-gt-LONGEST_TERM.false (omega (arith, c.narrow.ensures, c.if-most-deepest.false)) c.substitute.ensures
+
+pub offset_bounds-s-q : goal.offset_bounds-s-q
+offset_bounds-s-q c = omega (arith, places (the_couple c.requires c.couple_at-x.ensures (omega (arith, c.if-reason-gt0.false))))
+
+pub slice_bounds-measure-count : goal.slice_bounds-measure-count
+slice_bounds-measure-count c = omega (arith, places (the_couple c.requires c.couple_at-x.ensures (omega (arith, c.if-reason-gt0.false))))
+
+pub slice_bounds-measure-start : goal.slice_bounds-measure-start
+slice_bounds-measure-start c = omega (arith, places (the_couple c.requires c.couple_at-x.ensures (omega (arith, c.if-reason-gt0.false))))
+
+pub slice_bounds-measure-end : goal.slice_bounds-measure-end
+slice_bounds-measure-end c = omega (arith, places (the_couple c.requires c.couple_at-x.ensures (omega (arith, c.if-reason-gt0.false))))
