@@ -8,6 +8,7 @@ use mathlib.Core.List.{List, []}
 use native.Mathlib.Omega.{arith}
 use native.Mathlib.Numerals.{add-one}
 use lib.ListN.{length, get_or}
+use Rattle.std.specs.Prelude.{Err}
 use Rattle.calculus.specs.Terms.{Term, tau, var, app, abs, lift}
 use Rattle.calculus.specs.Frames.{Entry, single, pair, domain, Frame, entry_at}
 use Rattle.calculus.specs.Types.{type, type_of_var}
@@ -26,13 +27,14 @@ use Rattle.frames.proofs.Laws.{stored_depth, span_domain}
 use Rattle.letters.specs.Letters.{applicator, symbol_of, depth_of, height_of, Lies}
 use Rattle.letters.proofs.Letters.{first, height_letter, lies_end}
 use Rattle.bodies.specs.Ways.{Way, put, frame_at, depth_at}
-use Rattle.bodies.specs.Held.{Held, SomeHeld, InBody, reason_number, SteppedAs, step_refused, step_reached, TypedAs, type_is_none, typed, Steps, Types}
+use Rattle.bodies.specs.Reasons.{said}
+use Rattle.bodies.specs.Held.{Held, SomeHeld, InBody, Form, SteppedAs, step_refused, step_reached, TypedAs, type_is_none, typed, Steps, Types}
 use Rattle.bodies.specs.Finding.{Found, DomainLies, BindsDomain, EntryLies, lies_single, lies_pair, Binds, BoundInside, SomeBound, Finds}
 use Rattle.bodies.specs.Moving.{Ending}
 use Rattle.bodies.specs.Putting.{SourceIs, in_frame, in_body, Puttable, PutsTerm}
 use Rattle.bodies.specs.declared.Binder.{Binder}
-use Rattle.bodies.specs.declared.Form.{Form}
-use Rattle.bodies.specs.declared.Form.TheVariants.{Refused}
+use Rattle.bodies.specs.declared.Reason.TheVariants.{WrongSymbol, NoPartner}
+use Rattle.bodies.specs.declared.StepError.TheVariants.{NotPossible}
 use Rattle.bodies.specs.declared.Source.{Source}
 use Rattle.bodies.proofs.Ways.{place_way, step_along, means_outside, LastIs, ends_tau, ends_variable, last_is, same_frame}
 use Rattle.bodies.proofs.Binding.{found_domain}
@@ -68,9 +70,9 @@ module _ {W : List ℕ} {f : FrameRecord} {s : List ℕ} {n p : ℕ} {R : Frame}
       go (app K B) w d q = refl
       go (abs U B) w d q = refl
 
-pub no_variable : {W : List ℕ} {f : FrameRecord} {s : List ℕ} {n p k : ℕ} → InBody W f s n p → k ≡ symbol_of (get_or s p 0) → (1 ≤ k → k < applicator → ⊥) → Steps W f s s n (record { kind = 1; place = p }) (Refused 3)
-unfolding reason_number
-no_variable g e c = record { all = λ R t y. step_refused (not_variable y g.inside e c) refl; same_length = refl }
+pub no_variable : {W : List ℕ} {f : FrameRecord} {s : List ℕ} {n p k : ℕ} → InBody W f s n p → k ≡ symbol_of (get_or s p 0) → (1 ≤ k → k < applicator → ⊥) → Steps W f s s n (record { kind = 1; place = p }) (Err (NotPossible WrongSymbol))
+unfolding said
+no_variable g e c = record { all = λ R t y. step_refused (not_variable y g.inside e c); same_length = refl }
 
 pub place_inside : {W : List ℕ} {f : FrameRecord} {s : List ℕ} {n p : ℕ} → InBody W f s n p → (p < n) × (n ≤ longest_term) × (length s ≡ longest_term)
 place_inside g = let y = g.some_held.held in (g.inside, omega (arith, lies_end y.lies, y.array), y.array)
@@ -118,25 +120,25 @@ pub record Alone (W : List ℕ) (f : FrameRecord) (s : List ℕ) (n p k : ℕ) :
   pub all : {R : Frame} {t : Term} → Held W f s n R t → (w : Way t p (var k)) → (o : Entry) × (entry_at (frame_at R [] w) k ≡ some o) × (partner o ≡ none)
 
 module _ {W : List ℕ} {f : FrameRecord} {s : List ℕ} {n p k : ℕ} (g : InBody W f s n p) (e : k ≡ symbol_of (get_or s p 0)) (a : 1 ≤ k) (b : k < applicator) where
-  pub puttable : {x : Source} {choose : Entry → Option Term} → Supplies W f s n p k x choose → Puttable W f.len s n p x
+  pub puttable : {x : Source} {choose : Entry → Option Term} → Supplies W f s n p k x choose → Puttable W f s n p x
   puttable c = let y = g.some_held.held in let w = variable_way y g.inside e a b in
-      record { frames = f; entries = refl; frame = g.some_held.frame; body = g.some_held.term; k = k; way = w; held = y; term = (c.all y w).term; source = (c.all y w).source }
+      record { frame = g.some_held.frame; body = g.some_held.term; k = k; way = w; held = y; term = (c.all y w).term; source = (c.all y w).source }
 
-  pub local_put : {x : Source} {s' : List ℕ} {r : Form} → Supplies W f s n p k x partner → PutsTerm W f.len s s' n p x r → Steps W f s s' n (record { kind = 1; place = p }) r
+  pub local_put : {x : Source} {s' : List ℕ} {r : Form} → Supplies W f s n p k x partner → PutsTerm W f s s' n p x r → Steps W f s s' n (record { kind = 1; place = p }) r
   unfolding map_outcome
   local_put {x} {s'} {r} c d = record { all = λ R t y. go R t y (variable_way y g.inside e a b); same_length = d.same_length }
     where
       go : (R : Frame) (t : Term) (y : Held W f s n R t) → Way t p (var k) → SteppedAs W f s' R (record { kind = 1; place = p }) t r
       go R t y w = let z = c.all y w in
           let q : step R (record { kind = 1; place = p }) t ≡ reached (put w (lift x.lift 0 z.term)) = local_here R w z.means ∙ ap (map_outcome (put w)) (reduce_partner k z.entry z.chosen) ∙ ap (λ v. reached (put w v)) z.lifted in
-          step_reached q (d.all f refl R t k w z.term y z.source (closedness.step_closed (record { kind = 1; place = p }) y.closed_frame y.closed q))
+          step_reached q (d.all R t k w z.term y z.source (closedness.step_closed (record { kind = 1; place = p }) y.closed_frame y.closed q))
 
-  pub local_alone : Alone W f s n p k → Steps W f s s n (record { kind = 1; place = p }) (Refused 4)
-  unfolding map_outcome reason_number
+  pub local_alone : Alone W f s n p k → Steps W f s s n (record { kind = 1; place = p }) (Err (NotPossible NoPartner))
+  unfolding map_outcome said
   local_alone c = record { all = λ R t y. go R t y (variable_way y g.inside e a b); same_length = refl }
     where
-      go : (R : Frame) (t : Term) (y : Held W f s n R t) → Way t p (var k) → SteppedAs W f s R (record { kind = 1; place = p }) t (Refused 4)
-      go R t y w = let z = c.all y w in step_refused (local_here R w z.1 ∙ ap (map_outcome (put w)) (reduce_alone k z.0 z.2)) refl
+      go : (R : Frame) (t : Term) (y : Held W f s n R t) → Way t p (var k) → SteppedAs W f s R (record { kind = 1; place = p }) t (Err (NotPossible NoPartner))
+      go R t y w = let z = c.all y w in step_refused (local_here R w z.1 ∙ ap (map_outcome (put w)) (reduce_alone k z.0 z.2))
 
 -- ---- The last symbol, and the type.
 record LastVariable (t : Term) (q k : ℕ) : Type 0 where
@@ -172,18 +174,17 @@ module _ {W : List ℕ} {f : FrameRecord} {s : List ℕ} {n : ℕ} {R : Frame} {
       go (ends_variable w q) = let a = at_way y w in omega (arith, a.symbol, index_small a.there_now.lies.coded)
 
 module _ {W : List ℕ} {f : FrameRecord} {s : List ℕ} {n k : ℕ} (g : SomeHeld W f s n) (e : k ≡ symbol_of (get_or s (n - 1) 0)) where
-  pub no_type_there : k ≡ 0 → Types W f s s n (Refused 3)
-  unfolding reason_number
-  no_type_there z = record { all = λ R t y. type_is_none (last_tau y (sym e ∙ z)) refl; same_length = refl }
+  pub no_type_there : k ≡ 0 → Types W f s s n (Err (NotPossible WrongSymbol))
+  no_type_there z = record { all = λ R t y. type_is_none (last_tau y (sym e ∙ z)); same_length = refl }
 
-  pub type_put : {x : Source} {s' : List ℕ} {r : Form} → 1 ≤ k → Supplies W f s n (n - 1) k x own_domain → PutsTerm W f.len s s' n (n - 1) x r → Types W f s s' n r
+  pub type_put : {x : Source} {s' : List ℕ} {r : Form} → 1 ≤ k → Supplies W f s n (n - 1) k x own_domain → PutsTerm W f s s' n (n - 1) x r → Types W f s s' n r
   unfolding type_of_var own_domain
   type_put {x} {s'} {r} l c d = record { all = λ R t y. go R t y (last_variable y e l); same_length = d.same_length }
     where
       go : (R : Frame) (t : Term) (y : Held W f s n R t) → LastVariable t (n - 1) k → TypedAs W f s' R t r
       go R t y v = let w = v.way in let z = c.all y w in
           let q : type R t ≡ some (put w (lift x.lift 0 z.term)) = v.types R ∙ ap (λ o. map (put w) (type_of_var k o)) z.means ∙ ap (λ u. some (put w (lift k 0 u))) (some_inj z.chosen) ∙ ap (λ u. some (put w u)) z.lifted in
-          typed q (d.all f refl R t k w z.term y z.source (closedness.type_closed y.closed_frame y.closed q))
+          typed q (d.all R t k w z.term y z.source (closedness.type_closed y.closed_frame y.closed q))
 
 -- ---- The entry that a variable means, within the body.
 record DomainThere (s : List ℕ) (p from m c : ℕ) (U : Term) : Type 0 where

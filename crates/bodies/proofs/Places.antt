@@ -9,6 +9,7 @@ use lib.Dec.{leb}
 use lib.ListN.{length, get_or, take, drop}
 use lib.Seq.{sets, sets-eq}
 use borrow.Author.Tests.{le-leb, lt-leb}
+use Rattle.std.specs.Prelude.{Ok, Err}
 use Rattle.calculus.specs.Terms.{Term, var, size, Closed, closed_var}
 use Rattle.calculus.specs.Frames.{Frame, depth}
 use Rattle.code.specs.Limits.{longest_term, most_abstractors}
@@ -24,7 +25,7 @@ use Rattle.letters.proofs.Letters.{first, first_small, length_letters, symbol_le
 use Rattle.bodies.specs.Ways.{Way, put, depth_at, height_at}
 use Rattle.bodies.specs.Held.{Held, FormAs, form_outgrown, form_held}
 use Rattle.bodies.specs.Moving.{Spliced}
-use Rattle.bodies.specs.declared.Form.TheVariants.{Outgrown, Length}
+use Rattle.bodies.specs.declared.StepError.TheVariants.{Outgrown}
 use Rattle.bodies.proofs.Ways.{way_within, way_scope, way_closed, put_size, put_scope, height_least}
 use Rattle.bodies.proofs.Splitting.{There, there, lies_put}
 
@@ -87,14 +88,14 @@ module _ {W : List ℕ} {f : FrameRecord} {s : List ℕ} {n p : ℕ} {R : Frame}
   size_there : size (put w x) + size u ≡ n + size x
   size_there = omega (arith, put_size w x, y.lies.place)
 
-  pub over_long : {s' : List ℕ} → longest_term + size u < n + size x → FormAs W f s' R (put w x) Outgrown
+  pub over_long : {s' : List ℕ} → longest_term + size u < n + size x → FormAs W f s' R (put w x) (Err Outgrown)
   over_long h = form_outgrown (fits_long R (put w x) (omega (arith, size_there)))
 
-  pub too_deep : {s' : List ℕ} → most_abstractors < depth R + (depth_at 0 w + scope x) → FormAs W f s' R (put w x) Outgrown
+  pub too_deep : {s' : List ℕ} → most_abstractors < depth R + (depth_at 0 w + scope x) → FormAs W f s' R (put w x) (Err Outgrown)
   too_deep h = form_outgrown (fits_deep R (put w x) (omega (arith, put_scope 0 w x)))
 
   pub put_held : {s' : List ℕ} {m q : ℕ} → Closed (depth R) (put w x) → depth R + (depth_at 0 w + scope x) ≤ most_abstractors → m ≤ longest_term → m + size u ≡ n + size x → q ≡ p + size u
-      → Spliced s s' n p q (letters (depth_at 0 w) (height_at 0 w) x) → FormAs W f s' R (put w x) (Length m)
+      → Spliced s s' n p q (letters (depth_at 0 w) (height_at 0 w) x) → FormAs W f s' R (put w x) (Ok m)
   put_held {s'} {m} c d l k e g = form_held (fits_true R (put w x) (omega (arith, same)) shallow) same (record {
     stored = y.stored;
     closed_frame = y.closed_frame;

@@ -8,6 +8,7 @@ use mathlib.Core.List.{List}
 use native.Mathlib.Omega.{arith}
 use lib.ListN.{length, get_or}
 use lib.Seq.{sets}
+use Rattle.std.specs.Prelude.{Ok, Err}
 use Rattle.calculus.specs.Terms.{Term, var, size, Closed, lift}
 use Rattle.calculus.specs.Frames.{Frame, depth}
 use Rattle.calculus.proofs.Lift.{size_lift}
@@ -27,7 +28,7 @@ use Rattle.bodies.specs.Held.{Held, FormAs}
 use Rattle.bodies.specs.Moving.{PartLiftable, Lifts, SomeLies, DeepestIs}
 use Rattle.bodies.specs.Putting.{SourceIs, in_frame, in_body, Sourced, SourceWritten, Puttable, PutsTerm}
 use Rattle.bodies.specs.declared.Source.{Source}
-use Rattle.bodies.specs.declared.Form.TheVariants.{Outgrown, Length}
+use Rattle.bodies.specs.declared.StepError.TheVariants.{Outgrown}
 use Rattle.bodies.proofs.Lifting.{lifted_lies}
 use Rattle.bodies.proofs.Places.{At, at_way, over_long, too_deep, put_held, splice, lies_before}
 
@@ -119,7 +120,7 @@ module _ {w s : List ℕ} {p d h room : ℕ} {x : Source} (g : Sourced w s p d h
                 (shallow i)
 
 -- ---- `put`.
-module _ {w : List ℕ} {len : ℕ} {s : List ℕ} {n p : ℕ} {x : Source} (g : Puttable w len s n p x) where
+module _ {w : List ℕ} {f : FrameRecord} {s : List ℕ} {n p : ℕ} {x : Source} (g : Puttable w f s n p x) where
   at : At s n p g.frame g.way
   at = at_way g.held g.way
 
@@ -127,29 +128,29 @@ module _ {w : List ℕ} {len : ℕ} {s : List ℕ} {n p : ℕ} {x : Source} (g :
   unfolding size
   put_bounds = ((source_end g.source).0, omega (arith, at.inside), omega (arith, at.inside), at.most, g.held.array, ⊎_elim (λ l. omega (arith, g.held.stored.work)) (λ l. omega (arith, at.inside, at.most)) (source_end g.source).1)
 
-  pub put_long : longest_term < n - 1 + (x.end - x.start) → PutsTerm w len s s n p x Outgrown
+  pub put_long : longest_term < n - 1 + (x.end - x.start) → PutsTerm w f s s n p x (Err Outgrown)
   unfolding size
-  put_long l = record { all = λ f o R t k way K y i c. over_long y way (lift x.lift 0 K) (omega (arith, put_bounds, source_size i, size_lift x.lift 0 K)); same_length = refl }
+  put_long l = record { all = λ R t k way K y i c. over_long y way (lift x.lift 0 K) (omega (arith, put_bounds, source_size i, size_lift x.lift 0 K)); same_length = refl }
 
   module _ {d : ℕ} (e : d ≡ depth_of (get_or s p 0)) where
-    deep_is : {f : FrameRecord} {R : Frame} {t : Term} {k : ℕ} (y : Held w f s n R t) (way : Way t p (var k)) → d ≡ depth_at 0 way
+    deep_is : {R : Frame} {t : Term} {k : ℕ} (y : Held w f s n R t) (way : Way t p (var k)) → d ≡ depth_at 0 way
     deep_is y way = e ∙ (at_way y way).deep
 
-    pub put_room : len + d ≤ most_abstractors
-    put_room = omega (arith, at.shallow, deep_is g.held g.way, stored_depth g.held.stored, g.entries)
+    pub put_room : f.len + d ≤ most_abstractors
+    put_room = omega (arith, at.shallow, deep_is g.held g.way, stored_depth g.held.stored)
 
     module _ {h : ℕ} (b : h ≡ height_of (get_or s p 0)) (l : n - 1 + (x.end - x.start) ≤ longest_term)
         {s₁ : List ℕ} (c : Copied s (p + 1) n s s₁ (p + 1 + (x.end - x.start - 1))) where
       moved : Copied s (p + 1) n s s₁ (p + (x.end - x.start))
       moved = subst (Copied s (p + 1) n s s₁) (omega (arith, put_bounds)) c
 
-      high_is : {f : FrameRecord} {R : Frame} {t : Term} {j : ℕ} (y : Held w f s n R t) (way : Way t p (var j)) → h ≡ height_at 0 way
+      high_is : {R : Frame} {t : Term} {j : ℕ} (y : Held w f s n R t) (way : Way t p (var j)) → h ≡ height_at 0 way
       high_is y way = b ∙ (at_way y way).high
 
-      source_now : {f : FrameRecord} {R : Frame} {t : Term} {j : ℕ} {K : Term} (y : Held w f s n R t) (way : Way t p (var j)) → SourceIs w s p (depth_at 0 way) x K → SourceIs w s₁ p d x K
+      source_now : {R : Frame} {t : Term} {j : ℕ} {K : Term} (y : Held w f s n R t) (way : Way t p (var j)) → SourceIs w s p (depth_at 0 way) x K → SourceIs w s₁ p d x K
       source_now {K = K} y way i = subst (λ z. SourceIs w s₁ p z x K) (sym (deep_is y way)) (source_moved moved (omega arith) i)
 
-      pub put_sourced : Sourced w s₁ p d h (most_abstractors - len - d) x
+      pub put_sourced : Sourced w s₁ p d h (most_abstractors - f.len - d) x
       put_sourced = record {
         work = g.held.stored.work;
         array = c.same_length ∙ g.held.array;
@@ -160,27 +161,27 @@ module _ {w : List ℕ} {len : ℕ} {s : List ℕ} {n p : ℕ} {x : Source} (g :
         fits = omega (arith, put_bounds);
       }
 
-      module _ {s' : List ℕ} {r : Bool} (o : SourceWritten w s₁ s' p d h (most_abstractors - len - d) x r) where
-        written : {f : FrameRecord} {R : Frame} {t : Term} {j : ℕ} {K : Term} (y : Held w f s n R t) (way : Way t p (var j)) → SourceIs w s p (depth_at 0 way) x K → ReadAs x.lift d h (most_abstractors - len - d) s₁ s' p K r
+      module _ {s' : List ℕ} {r : Bool} (o : SourceWritten w s₁ s' p d h (most_abstractors - f.len - d) x r) where
+        written : {R : Frame} {t : Term} {j : ℕ} {K : Term} (y : Held w f s n R t) (way : Way t p (var j)) → SourceIs w s p (depth_at 0 way) x K → ReadAs x.lift d h (most_abstractors - f.len - d) s₁ s' p K r
         written {K = K} y way i = o.all K (source_now y way i)
 
         same_length : length s' ≡ length s
         same_length = o.same_length ∙ c.same_length
 
-        pub put_deep : r ≡ false → PutsTerm w len s s' n p x Outgrown
-        put_deep q = record { all = λ f m R t j way K y i u. go y m way i (subst (ReadAs x.lift d h (most_abstractors - len - d) s₁ s' p K) q (written y way i)); same_length = same_length }
+        pub put_deep : r ≡ false → PutsTerm w f s s' n p x (Err Outgrown)
+        put_deep q = record { all = λ R t j way K y i u. go y way i (subst (ReadAs x.lift d h (most_abstractors - f.len - d) s₁ s' p K) q (written y way i)); same_length = same_length }
           where
-            go : {f : FrameRecord} {R : Frame} {t : Term} {j : ℕ} {K : Term} (y : Held w f s n R t) → f.len ≡ len → (way : Way t p (var j)) → SourceIs w s p (depth_at 0 way) x K → ReadAs x.lift d h (most_abstractors - len - d) s₁ s' p K false
-                → FormAs w f s' R (put way (lift x.lift 0 K)) Outgrown
-            go {K = K} y m way i (reading.too_deep z) = too_deep y way (lift x.lift 0 K) (omega (arith, scope_lift x.lift 0 K, deep_is y way, stored_depth y.stored, put_room))
+            go : {R : Frame} {t : Term} {j : ℕ} {K : Term} (y : Held w f s n R t) → (way : Way t p (var j)) → SourceIs w s p (depth_at 0 way) x K → ReadAs x.lift d h (most_abstractors - f.len - d) s₁ s' p K false
+                → FormAs w f s' R (put way (lift x.lift 0 K)) (Err Outgrown)
+            go {K = K} y way i (reading.too_deep z) = too_deep y way (lift x.lift 0 K) (omega (arith, scope_lift x.lift 0 K, deep_is y way, stored_depth y.stored, put_room))
 
-        pub put_done : r ≡ true → PutsTerm w len s s' n p x (Length (n - 1 + (x.end - x.start)))
+        pub put_done : r ≡ true → PutsTerm w f s s' n p x (Ok (n - 1 + (x.end - x.start)))
         unfolding size
-        put_done q = record { all = λ f o R t j way K y i u. go y o way i u (subst (ReadAs x.lift d h (most_abstractors - len - d) s₁ s' p K) q (written y way i)); same_length = same_length }
+        put_done q = record { all = λ R t j way K y i u. go y way i u (subst (ReadAs x.lift d h (most_abstractors - f.len - d) s₁ s' p K) q (written y way i)); same_length = same_length }
           where
-            go : {f : FrameRecord} {R : Frame} {t : Term} {j : ℕ} {K : Term} (y : Held w f s n R t) → f.len ≡ len → (way : Way t p (var j)) → SourceIs w s p (depth_at 0 way) x K → Closed (depth R) (put way (lift x.lift 0 K))
-                → ReadAs x.lift d h (most_abstractors - len - d) s₁ s' p K true → FormAs w f s' R (put way (lift x.lift 0 K)) (Length (n - 1 + (x.end - x.start)))
-            go {K = K} y o way i u (read_all z m) =
+            go : {R : Frame} {t : Term} {j : ℕ} {K : Term} (y : Held w f s n R t) → (way : Way t p (var j)) → SourceIs w s p (depth_at 0 way) x K → Closed (depth R) (put way (lift x.lift 0 K))
+                → ReadAs x.lift d h (most_abstractors - f.len - d) s₁ s' p K true → FormAs w f s' R (put way (lift x.lift 0 K)) (Ok (n - 1 + (x.end - x.start)))
+            go {K = K} y way i u (read_all z m) =
                 let v : letters d h (lift x.lift 0 K) ≡ letters (depth_at 0 way) (height_at 0 way) (lift x.lift 0 K) = rw (deep_is y way, high_is y way) refl in
                 let count : length (letters (depth_at 0 way) (height_at 0 way) (lift x.lift 0 K)) ≡ x.end - x.start = length_letters (depth_at 0 way) (height_at 0 way) (lift x.lift 0 K) ∙ omega (arith, size_lift x.lift 0 K, source_size i) in
                 put_held y way (lift x.lift 0 K) u (omega (arith, scope_lift x.lift 0 K, deep_is y way, stored_depth y.stored, put_room)) l

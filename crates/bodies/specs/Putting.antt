@@ -10,8 +10,7 @@ use Rattle.frames.specs.declared.FrameRecord.{FrameRecord}
 use Rattle.letters.specs.Letters.{Lies}
 use Rattle.letters.specs.Clauses.{ReadAs}
 use Rattle.bodies.specs.Ways.{Way, put, depth_at}
-use Rattle.bodies.specs.Held.{Held, FormAs}
-use Rattle.bodies.specs.declared.Form.{Form}
+use Rattle.bodies.specs.Held.{Held, Form, FormAs}
 use Rattle.bodies.specs.declared.Source.{Source}
 
 -- The term for a variable at place p, which has depth d, stands where x says: in the frame's bytes w, or among the letters before p.
@@ -33,20 +32,18 @@ pub record SourceWritten (w s s' : List ℕ) (p d h room : ℕ) (x : Source) (an
   pub all : (K : Term) → SourceIs w s p d x K → ReadAs x.lift d h room s s' p K answer
   pub same_length : length s' ≡ length s
 
--- A variable stands at place p of a body after a frame of len entries, and a term for it where x says.
-pub record Puttable (w : List ℕ) (len : ℕ) (s : List ℕ) (n p : ℕ) (x : Source) : Type 0 where
-  pub frames : FrameRecord
-  pub entries : frames.len ≡ len
+-- A variable stands at place p of a body after the frame, and a term for it where x says.
+pub record Puttable (w : List ℕ) (f : FrameRecord) (s : List ℕ) (n p : ℕ) (x : Source) : Type 0 where
   pub frame : Frame
   pub body : Term
   pub k : ℕ
   pub way : Way body p (var k)
-  pub held : Held w frames s n frame body
+  pub held : Held w f s n frame body
   pub term : Term
   pub source : SourceIs w s p (depth_at 0 way) x term
 
 -- The body with that term in its place, which is closed, is over the limits, or s' holds it.
-pub record PutsTerm (w : List ℕ) (len : ℕ) (s s' : List ℕ) (n p : ℕ) (x : Source) (r : Form) : Type 0 where
-  pub all : (f : FrameRecord) → f.len ≡ len → (R : Frame) (t : Term) (k : ℕ) (way : Way t p (var k)) (K : Term) → Held w f s n R t → SourceIs w s p (depth_at 0 way) x K
+pub record PutsTerm (w : List ℕ) (f : FrameRecord) (s s' : List ℕ) (n p : ℕ) (x : Source) (r : Form) : Type 0 where
+  pub all : (R : Frame) (t : Term) (k : ℕ) (way : Way t p (var k)) (K : Term) → Held w f s n R t → SourceIs w s p (depth_at 0 way) x K
       → Closed (depth R) (put way (lift x.lift 0 K)) → FormAs w f s' R (put way (lift x.lift 0 K)) r
   pub same_length : length s' ≡ length s

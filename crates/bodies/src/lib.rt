@@ -3,35 +3,51 @@
 
 ghost use Rattle.std.specs.Prelude.{◌≡◌, ◌+◌, ◌-◌, ◌≤◌, ◌<◌, max, length};
 ghost use Rattle.code.specs.Limits.{longest_term};
-ghost use Rattle.frames.specs.Stored.{record_of};
 ghost use Rattle.letters.specs.Letters.{depth_of};
 ghost use Rattle.parts.specs.Parts.{Copied};
+ghost use Rattle.bodies.specs.declared.StepError.TheVariants.{NotPossible};
+ghost use Rattle.bodies.specs.Reasons.{said, reason_number};
 ghost use Rattle.bodies.specs.Held.{SomeHeld, InBody, Steps, Types};
 ghost use Rattle.bodies.specs.Finding.{Findable, Found, Matable, Mated, SomeBound, Finds};
 ghost use Rattle.bodies.specs.Moving.{Ending, LiftableLetter, lifted_letter, PartLiftable, Lifts, SomeLies, DeepestIs};
 ghost use Rattle.bodies.specs.Putting.{Sourced, SourceWritten, Puttable, PutsTerm};
 
 use code::numbers::{LONGEST_TERM, MOST_ABSTRACTORS};
-use frames::{Starts, Work, entry_at};
+use frames::{FrameRecord, Work, entry_at};
 use letters::{ABSTRACTOR, APPLICATOR, Letters, depth_of, height_of, letter_of, read, symbol_of};
 
-// Why a step is refused, in the order in which it is tried.
-pub const UNKNOWN_KIND: u32 = 1;
+// Why a step is not possible, in the order in which it is tried.
+#[derive(Clone, Copy, Debug, PartialEq, Eq)]
+pub enum Reason {
+    UnknownKind = 1,
+    PastEnd = 2,
+    WrongSymbol = 3,
+    NoPartner = 4,
+    StillUsed = 5,
+}
 
-pub const PAST_END: u32 = 2;
+// Its number.
+impl From<Reason> for usize {
+    ghost from_gives = { λ x r. r ≡ reason_number (said x) };
 
-pub const WRONG_SYMBOL: u32 = 3;
+    fn from(reason: Reason) -> usize {
+        reason as usize
+    }
+}
 
-pub const NO_PARTNER: u32 = 4;
-
-pub const STILL_USED: u32 = 5;
-
-// The step is refused, for this reason; the form that it reaches is over the limits; or the form's length.
-#[derive(Drop)]
-pub enum Form {
-    Refused(u32),
+// Why a step reaches no form: it is not possible, or the form is over the limits.
+#[derive(Clone, Copy, Debug, PartialEq, Eq)]
+pub enum StepError {
+    NotPossible(Reason),
     Outgrown,
-    Length(usize),
+}
+
+impl From<Reason> for StepError {
+    ghost from_gives = { λ x e. e ≡ NotPossible x };
+
+    fn from(reason: Reason) -> StepError {
+        StepError::NotPossible(reason)
+    }
 }
 
 // A variable's abstractor in the body, and the K of its couple: where that starts, 0 if there is none, and where it ends.
@@ -285,24 +301,31 @@ fn write_source(
     true
 }
 
-// The term that x says, lifted, takes the place of the variable at p of the body in the first n letters, after a frame of len entries.
-fn put(s: &mut Letters, n: usize, work: &Work, len: usize, p: usize, x: Source) -> Form
-    requires { Puttable work.now len s.old n p x }
-    ensures { PutsTerm work.now len s.old s.new n p x result }
+// The term that x says, lifted, takes the place of the variable at p of the body in the first n letters, after the frame.
+fn put(
+    s: &mut Letters,
+    n: usize,
+    work: &Work,
+    frame: &FrameRecord,
+    p: usize,
+    x: Source,
+) -> Result<usize, StepError>
+    requires { Puttable work.now frame.now s.old n p x }
+    ensures { PutsTerm work.now frame.now s.old s.new n p x result }
 {
     let size = x.end - x.start;
     let m = n - 1 + size;
     if m > LONGEST_TERM {
-        return Form::Outgrown;
+        return Err(StepError::Outgrown);
     }
     let v = s[p];
     let d = depth_of(v);
-    let room = MOST_ABSTRACTORS - len - d;
+    let room = MOST_ABSTRACTORS - frame.len - d;
     move_right(s, p + 1, n, size - 1);
     if !write_source(s, work, x, d, height_of(v), room, p) {
-        return Form::Outgrown;
+        return Err(StepError::Outgrown);
     }
-    Form::Length(m)
+    Ok(m)
 }
 
 // ---- Steps of kind 1, at place p.
@@ -310,28 +333,26 @@ pub fn local(
     s: &mut Letters,
     n: usize,
     work: &Work,
-    starts: &Starts,
-    len: usize,
-    end: usize,
+    frame: &FrameRecord,
     p: usize,
-) -> Form
-    requires { InBody work.now (record_of starts.now len end) s.old n p }
-    ensures { Steps work.now (record_of starts.now len end) s.old s.new n (record { kind = 1; place = p }) result }
+) -> Result<usize, StepError>
+    requires { InBody work.now frame.now s.old n p }
+    ensures { Steps work.now frame.now s.old s.new n (record { kind = 1; place = p }) result }
 {
     let v = s[p];
     let k = symbol_of(v);
     if k == 0 {
-        return Form::Refused(WRONG_SYMBOL);
+        return Err(StepError::NotPossible(Reason::WrongSymbol));
     }
     if k >= APPLICATOR {
-        return Form::Refused(WRONG_SYMBOL);
+        return Err(StepError::NotPossible(Reason::WrongSymbol));
     }
     let d = depth_of(v);
     if k <= d {
         let b = find(s, p, d - k);
         let applied = b.applied;
         if applied == 0 {
-            return Form::Refused(NO_PARTNER);
+            return Err(StepError::NotPossible(Reason::NoPartner));
         }
         let x = Source {
             framed: false,
@@ -339,12 +360,12 @@ pub fn local(
             end: b.end,
             lift: d - depth_of(s[applied - 1]),
         };
-        return put(s, n, work, len, p, x);
+        return put(s, n, work, frame, p, x);
     }
-    let e = entry_at(work, starts, len, end, k - d);
+    let e = entry_at(work, frame, k - d);
     let start = e.applied;
     if start == 0 {
-        return Form::Refused(NO_PARTNER);
+        return Err(StepError::NotPossible(Reason::NoPartner));
     }
     let x = Source {
         framed: true,
@@ -352,7 +373,7 @@ pub fn local(
         end: e.domain - 1,
         lift: k,
     };
-    put(s, n, work, len, p, x)
+    put(s, n, work, frame, p, x)
 }
 
 // ---- The type of the body in the first n letters takes its place: U for its last variable.
@@ -360,18 +381,16 @@ pub fn type_in_place(
     s: &mut Letters,
     n: usize,
     work: &Work,
-    starts: &Starts,
-    len: usize,
-    end: usize,
-) -> Form
-    requires { SomeHeld work.now (record_of starts.now len end) s.old n }
-    ensures { Types work.now (record_of starts.now len end) s.old s.new n result }
+    frame: &FrameRecord,
+) -> Result<usize, StepError>
+    requires { SomeHeld work.now frame.now s.old n }
+    ensures { Types work.now frame.now s.old s.new n result }
 {
     let p = n - 1;
     let v = s[p];
     let k = symbol_of(v);
     if k == 0 {
-        return Form::Refused(WRONG_SYMBOL);
+        return Err(StepError::NotPossible(Reason::WrongSymbol));
     }
     let d = depth_of(v);
     if k <= d {
@@ -384,14 +403,14 @@ pub fn type_in_place(
             end: to,
             lift: k,
         };
-        return put(s, n, work, len, p, x);
+        return put(s, n, work, frame, p, x);
     }
-    let e = entry_at(work, starts, len, end, k - d);
+    let e = entry_at(work, frame, k - d);
     let x = Source {
         framed: true,
         start: e.domain,
         end: e.end,
         lift: k,
     };
-    put(s, n, work, len, p, x)
+    put(s, n, work, frame, p, x)
 }

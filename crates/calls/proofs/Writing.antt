@@ -9,6 +9,7 @@ use native.Mathlib.Omega.{arith}
 use lib.ListN.{length}
 use lib.Seq.{sets}
 use borrow.Author.Tests.{le-leb, lt-leb}
+use Rattle.std.specs.Prelude.{Ok, Err}
 use Rattle.calculus.specs.Terms.{Term, size}
 use Rattle.calculus.specs.Frames.{ε, depth, closed_empty}
 use Rattle.calculus.specs.Types.{type}
@@ -24,10 +25,10 @@ use Rattle.frames.specs.declared.FrameRecord.{FrameRecord}
 use Rattle.letters.specs.Letters.{letters, Lies}
 use Rattle.letters.specs.Clauses.{Readable, ReadAs, read_all, too_deep, Reads, BytesWritable, Writes}
 use Rattle.letters.proofs.Letters.{lies_stored}
-use Rattle.bodies.specs.Held.{Held, SomeHeld, FormAs, form_outgrown, form_held, SteppedAs, Steps, TypedAs, Types}
+use Rattle.bodies.specs.Held.{Held, SomeHeld, Form, FormAs, form_outgrown, form_held, SteppedAs, Steps, TypedAs, Types}
 use Rattle.bodies.specs.Held as bodies
-use Rattle.bodies.specs.declared.Form.{Form}
-use Rattle.bodies.specs.declared.Form.TheVariants.{Refused, Outgrown, Length}
+use Rattle.bodies.specs.declared.Reason.{Reason}
+use Rattle.bodies.specs.declared.StepError.TheVariants.{NotPossible, Outgrown}
 use Rattle.examine.specs.Inspect.{refused, accepted, examined, term_answer}
 use Rattle.examine.specs.declared.TermAnswer.{TermAnswer}
 use Rattle.examine.specs.Claims.{WellFormed}
@@ -110,9 +111,9 @@ module _ {b : List ℕ} {n : ℕ} {t : Term} (h : InLetters b n t) (out : List �
 
 -- ---- What the answer x has to be, by the form that the body was brought to; `unmet` is the answer where there is none.
 pub data Answers (b out : List ℕ) (unmet x : Written) : Form → Type 0 where
-  at_refusal : {y : ℕ} → unmet ≡ x → Answers b out unmet x (Refused y)
-  at_outgrown : answer 11 0 0 out ≡ x → Answers b out unmet x Outgrown
-  at_letters : {m : ℕ} {u : Term} → InLetters b m u → handed out (encode u) ≡ x → Answers b out unmet x (Length m)
+  at_refusal : {y : Reason} → unmet ≡ x → Answers b out unmet x (Err (NotPossible y))
+  at_outgrown : answer 11 0 0 out ≡ x → Answers b out unmet x (Err Outgrown)
+  at_letters : {m : ℕ} {u : Term} → InLetters b m u → handed out (encode u) ≡ x → Answers b out unmet x (Ok m)
 
 form_answers : {w b out : List ℕ} {f : FrameRecord} {u : Term} {unmet x : Written} {r : Form} → FormAs w f b ε u r → written out u ≡ x → Answers b out unmet x r
 unfolding written depth
@@ -120,25 +121,25 @@ form_answers (form_outgrown h) e = at_outgrown (rw h at e)
 form_answers (form_held h q y) e = at_letters (record { array = y.array; lies = y.lies }) (rw h at e)
 
 module _ {b out : List ℕ} {unmet x : Written} where
-  pub answers_unmet : {r : Form} {y : ℕ} → Answers b out unmet x r → r ≡ Refused y → unmet ≡ x
+  pub answers_unmet : {r : Form} {y : Reason} → Answers b out unmet x r → r ≡ Err (NotPossible y) → unmet ≡ x
   answers_unmet d q = go (rw q at d)
     where
-      go : {y : ℕ} → Answers b out unmet x (Refused y) → unmet ≡ x
+      go : {y : Reason} → Answers b out unmet x (Err (NotPossible y)) → unmet ≡ x
       go (at_refusal e) = e
 
-  pub answers_large : {r : Form} → Answers b out unmet x r → r ≡ Outgrown → answer 11 0 0 out ≡ x
+  pub answers_large : {r : Form} → Answers b out unmet x r → r ≡ Err Outgrown → answer 11 0 0 out ≡ x
   answers_large d q = go (rw q at d)
     where
-      go : Answers b out unmet x Outgrown → answer 11 0 0 out ≡ x
+      go : Answers b out unmet x (Err Outgrown) → answer 11 0 0 out ≡ x
       go (at_outgrown e) = e
 
-  pub answers_letters : {r : Form} {m : ℕ} → Answers b out unmet x r → r ≡ Length m → (u : Term) × InLetters b m u × (handed out (encode u) ≡ x)
+  pub answers_letters : {r : Form} {m : ℕ} → Answers b out unmet x r → r ≡ Ok m → (u : Term) × InLetters b m u × (handed out (encode u) ≡ x)
   answers_letters {m = m} d q = go (rw q at d)
     where
-      go : Answers b out unmet x (Length m) → (u : Term) × InLetters b m u × (handed out (encode u) ≡ x)
+      go : Answers b out unmet x (Ok m) → (u : Term) × InLetters b m u × (handed out (encode u) ≡ x)
       go (at_letters {u = u} h e) = (u, h, e)
 
-  pub answers_done : {r : Form} {m : ℕ} {z : Written} → Answers b out unmet x r → r ≡ Length m → ((u : Term) → InLetters b m u → z ≡ handed out (encode u)) → z ≡ x
+  pub answers_done : {r : Form} {m : ℕ} {z : Written} → Answers b out unmet x r → r ≡ Ok m → ((u : Term) → InLetters b m u → z ≡ handed out (encode u)) → z ≡ x
   answers_done d q k = let h = answers_letters d q in k h.0 h.1 ∙ h.2
 
 -- ---- The type, and a step.
@@ -159,7 +160,7 @@ module _ {s w b b' : List ℕ} {f : FrameRecord} {r : Form} (a : AcceptedTerm s)
       is e = sym (ap (type_answer_of out) a.accepts ∙ ap (type_written out) e)
 
       go : {r : Form} → TypedAs w f b' ε a.term r → Answers b' out (nothing out) (type_answer s out) r
-      go (bodies.type_is_none e q) = at_refusal (is e)
+      go (bodies.type_is_none e) = at_refusal (is e)
       go (bodies.typed e z) = form_answers z (is e)
 
   pub step_answers : {x : Step} → Steps w f b b' (length s) x r → Answers b' out (answer 10 0 0 out) (step_answer s x out) r
@@ -170,5 +171,5 @@ module _ {s w b b' : List ℕ} {f : FrameRecord} {r : Form} (a : AcceptedTerm s)
       is e = sym (ap (step_answer_of out x) a.accepts ∙ ap (step_written out) e)
 
       go : {r : Form} → SteppedAs w f b' ε x a.term r → Answers b' out (answer 10 0 0 out) (step_answer s x out) r
-      go (bodies.step_refused e q) = at_refusal (is e)
+      go (bodies.step_refused e) = at_refusal (is e)
       go (bodies.step_reached e z) = form_answers z (is e)

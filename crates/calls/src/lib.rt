@@ -9,7 +9,7 @@ ghost use Rattle.files.specs.File.{file_answer};
 ghost use Rattle.calls.specs.Answers.{FileAnswered, handed, type_answer, type_says, step_answer, step_says, AcceptedTerm, OpenedBody, InLetters};
 ghost use Rattle.calls.specs.Claims.{Promises};
 
-use bodies::Form;
+use bodies::StepError;
 use code::numbers::{
     ACCEPTED, BUFFER_TOO_SHORT, LONGEST_STATE, LONGEST_TERM, MOST_ABSTRACTORS, OUTGROWN,
     STEP_NOT_POSSIBLE,
@@ -93,11 +93,11 @@ fn type_accepted(s: &[u8], out: &mut [u8]) -> TypeAnswer
     open_body(s, &mut body);
     let work: Work = [0; LONGEST_STATE];
     let f = frames::empty_frame();
-    let typed = bodies::type_in_place(&mut body, s.len(), &work, &f.starts, f.len, f.end);
+    let typed = bodies::type_in_place(&mut body, s.len(), &work, &f);
     match typed {
-        Form::Refused(_) => TypeAnswer::Nothing,
-        Form::Outgrown => TypeAnswer::Answer(OUTGROWN, 0, 0),
-        Form::Length(n) => {
+        Err(StepError::NotPossible(_)) => TypeAnswer::Nothing,
+        Err(StepError::Outgrown) => TypeAnswer::Answer(OUTGROWN, 0, 0),
+        Ok(n) => {
             let r = deliver(&body, n, out);
             TypeAnswer::Answer(r.number, r.place, r.length)
         }
@@ -124,28 +124,19 @@ fn step_accepted(s: &[u8], kind: u8, place: usize, out: &mut [u8]) -> StepAnswer
     open_body(s, &mut body);
     let work: Work = [0; LONGEST_STATE];
     let f = frames::empty_frame();
-    let stepped = steps::step_in_place(
-        &mut body,
-        s.len(),
-        &work,
-        &f.starts,
-        f.len,
-        f.end,
-        kind,
-        place,
-    );
+    let stepped = steps::step_in_place(&mut body, s.len(), &work, &f, kind, place);
     match stepped {
-        Form::Refused(_) => StepAnswer {
+        Err(StepError::NotPossible(_)) => StepAnswer {
             number: STEP_NOT_POSSIBLE,
             place: 0,
             length: 0,
         },
-        Form::Outgrown => StepAnswer {
+        Err(StepError::Outgrown) => StepAnswer {
             number: OUTGROWN,
             place: 0,
             length: 0,
         },
-        Form::Length(n) => deliver(&body, n, out),
+        Ok(n) => deliver(&body, n, out),
     }
 }
 

@@ -7,6 +7,7 @@ use mathlib.Core.List.{List, [], ◌∷◌, map}
 use native.Mathlib.Omega.{arith}
 use native.Mathlib.Numerals.{add-one}
 use lib.ListN.{length, drop}
+use Rattle.std.specs.Prelude.{Ok, Err}
 use Rattle.calculus.specs.Terms.{Term, Closed}
 use Rattle.calculus.specs.Frames.{Frame, ClosedFrame}
 use Rattle.code.specs.Limits.{longest_term}
@@ -20,9 +21,9 @@ use Rattle.frames.specs.declared.FrameRecord.{FrameRecord}
 use Rattle.frames.specs.Stored.{Stored}
 use Rattle.frames.proofs.Laws.{stored_depth, stored_unique}
 use Rattle.letters.specs.Letters.{Lies}
-use Rattle.bodies.specs.declared.Form.{Form}
-use Rattle.bodies.specs.declared.Form.TheVariants.{Refused, Outgrown, Length}
-use Rattle.bodies.specs.Held.{Held, SomeHeld, TypedAs, Types}
+use Rattle.bodies.specs.declared.Reason.{Reason}
+use Rattle.bodies.specs.declared.StepError.TheVariants.{NotPossible, Outgrown}
+use Rattle.bodies.specs.Held.{Held, Form, SomeHeld, TypedAs, Types}
 use Rattle.bodies.proofs.Using.{refused_type, outgrown_type, held_type}
 use Rattle.bodies.proofs.Places.{fits_true}
 use Rattle.verdict.specs.Bounds.{body_fits}
@@ -124,18 +125,18 @@ module _ {file w : List ℕ} {at : ℕ} {f : FrameRecord} {m e : ℕ} (x : Compa
     typed q {R} {K} s h = subst (TypedAs w f c' R K) q (t.all R K (applied_held s k l h))
 
     module _ {a b : List ℕ} where
-      pub untyped_answer : {v : ℕ} → y ≡ Refused v → Compares file w at f m e (record { number = 7; next = at; first = 0; second = 0; third = 0 }) a b
+      pub untyped_answer : {v : Reason} → y ≡ Err (NotPossible v) → Compares file w at f m e (record { number = 7; next = at; first = 0; second = 0; third = 0 }) a b
       unfolding place_of
       untyped_answer q = record { all = λ R K U gs s i j h place p d. finished (same_at place R K U ∷ []) (stops_at (next_untyped R place U p K (refused_type (typed q s i))) (is_untyped refl refl refl refl) refl) }
 
-      pub no_group_answer : y ≡ Outgrown → length file ≤ at → Compares file w at f m e (record { number = 9; next = at; first = 0; second = 0; third = 0 }) a b
+      pub no_group_answer : y ≡ Err Outgrown → length file ≤ at → Compares file w at f m e (record { number = 9; next = at; first = 0; second = 0; third = 0 }) a b
       unfolding place_of
       no_group_answer q v = record {
         all = λ R K U gs s i j h place p d. let o = outgrown_type (typed q s i) in
             finished (same_at place R K U ∷ []) (stops_at (next_typed R place U p K o.0 o.1 ∙ no_groups R place U p o.0 (d ∙ ap (map (λ g. g.group)) (none_left h v))) (is_no_group refl refl refl refl) refl);
       }
 
-      pub large_type_answer : y ≡ Outgrown → at < length file → Compares file w at f m e (record { number = 11; next = at; first = 0; second = 0; third = 0 }) a b
+      pub large_type_answer : y ≡ Err Outgrown → at < length file → Compares file w at f m e (record { number = 11; next = at; first = 0; second = 0; third = 0 }) a b
       unfolding place_of
       large_type_answer q v = record {
         all = λ R K U gs s i j h place p d. let o = outgrown_type (typed q s i) in
@@ -145,7 +146,7 @@ module _ {file w : List ℕ} {at : ℕ} {f : FrameRecord} {m e : ℕ} (x : Compa
     pub typed_long : length c' ≡ longest_term
     typed_long = t.same_length ∙ l.same_length ∙ k
 
-    module _ {n : ℕ} (q : y ≡ Length n) where
+    module _ {n : ℕ} (q : y ≡ Ok n) where
       pub typing : Typing file w at f m e c' n
       typing = let o = held_type (typed q x.stored x.applied_stands) in record { comparing = x; typed = record { frame = x.frame; term = o.0; held = o.2.held } }
 

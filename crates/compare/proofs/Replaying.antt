@@ -8,6 +8,7 @@ use mathlib.Core.Bool.{true, false}
 use mathlib.Core.List.{List, [], ◌∷◌}
 use native.Mathlib.Omega.{arith}
 use native.Mathlib.Numerals.{add-one}
+use Rattle.std.specs.Prelude.{Ok, Err}
 use Rattle.calculus.specs.Terms.{Term}
 use Rattle.calculus.specs.Frames.{Frame}
 use Rattle.calculus.specs.Steps.{Step, Reason, step, reached, refused}
@@ -16,9 +17,10 @@ use Rattle.fields.proofs.Groups.{no_step, next_step}
 use Rattle.frames.specs.declared.FrameRecord.{FrameRecord}
 use Rattle.verdict.specs.Bounds.{body_fits}
 use Rattle.verdict.specs.Verdict.{step_refused, step_outgrown, Progress, turned, stopped, side_of, on_step, Configuration, Status, at_turn, done, side_from, to_turn, stepped, turn_by, turn}
-use Rattle.bodies.specs.declared.Form.{Form}
-use Rattle.bodies.specs.declared.Form.TheVariants.{Refused, Outgrown, Length}
-use Rattle.bodies.specs.Held.{Held, SomeHeld, reason_number, SteppedAs, Steps}
+use Rattle.bodies.specs.declared.Reason.{Reason as Said}
+use Rattle.bodies.specs.declared.StepError.TheVariants.{NotPossible, Outgrown}
+use Rattle.bodies.specs.Reasons.{said, reason_number}
+use Rattle.bodies.specs.Held.{Held, SomeHeld, Form, SteppedAs, Steps}
 use Rattle.bodies.specs.Held as bodies
 use Rattle.bodies.proofs.Using.{outgrown_step, held_step}
 use Rattle.compare.specs.Replays.{Leads, here, by_turn, Comes, as_form, as_refused, as_outgrown, Replays}
@@ -54,8 +56,8 @@ module _ {R : Frame} {ss₀ : List Step} {t₀ : Term} (n : ℕ) (s : Step) (ss 
   unfolding side_from turn_by stepped
   step_goes e h = record { leads = λ place o p. leads_then (c.leads place o p) (turn_to (on_step place R o n s ss t []) (turned n p) (rw (e, h, turned_suc n p)) here) }
 
-refusal : {w : List ℕ} {f : FrameRecord} {b : List ℕ} {R : Frame} {s : Step} {t : Term} {y : ℕ} → SteppedAs w f b R s t (Refused y) → (why : Reason) × (step R s t ≡ refused why) × (y ≡ reason_number why)
-refusal (bodies.step_refused {x} e q) = (x, e, q)
+refusal : {w : List ℕ} {f : FrameRecord} {b : List ℕ} {R : Frame} {s : Step} {t : Term} {y : Said} → SteppedAs w f b R s t (Err (NotPossible y)) → step R s t ≡ refused (said y)
+refusal (bodies.step_refused e) = e
 refusal (bodies.step_reached e x) = elim x [ ]
 
 -- ---- The loop.
@@ -95,19 +97,19 @@ module _ {file : List ℕ} {from to : ℕ} {w : List ℕ} {f : FrameRecord} {b�
     long : length b' ≡ longest_term
     long = a.same_length ∙ v.some.held.array
 
-    pub replaying_refused : {side y : ℕ} → x ≡ Refused y → Replays file from to side w f b₀ b' m₀ (record { number = 10; len = 0; side = side; step = n; reason = y })
-    replaying_refused e = record {
+    pub replaying_refused : {side i : ℕ} {y : Said} → x ≡ Err (NotPossible y) → i ≡ reason_number (said y) → Replays file from to side w f b₀ b' m₀ (record { number = 10; len = 0; side = side; step = n; reason = i })
+    replaying_refused e q = record {
       array = long;
-      all = λ R t h. let c = v.all R t h in let o = refusal (told e c.held) in as_refused refl refl refl o.2 (step_stops n s (read_steps file (at + 3) to) c.term (onward c) o.1);
+      all = λ R t h. let c = v.all R t h in let o = refusal (told e c.held) in as_refused refl refl refl q (step_stops n s (read_steps file (at + 3) to) c.term (onward c) o);
     }
 
-    pub replaying_outgrown : {side : ℕ} → x ≡ Outgrown → Replays file from to side w f b₀ b' m₀ (record { number = 11; len = 0; side = 0; step = 0; reason = 0 })
+    pub replaying_outgrown : {side : ℕ} → x ≡ Err Outgrown → Replays file from to side w f b₀ b' m₀ (record { number = 11; len = 0; side = 0; step = 0; reason = 0 })
     replaying_outgrown e = record {
       array = long;
       all = λ R t h. let c = v.all R t h in let o = outgrown_step (told e c.held) in as_outgrown refl refl refl refl (step_outgrows n s (read_steps file (at + 3) to) c.term (onward c) o.1 o.2);
     }
 
-    pub replaying_next : {k : ℕ} → x ≡ Length k → Replaying file from to w f b₀ m₀ b' (at + 3) k (n + 1)
+    pub replaying_next : {k : ℕ} → x ≡ Ok k → Replaying file from to w f b₀ m₀ b' (at + 3) k (n + 1)
     replaying_next {k} e = record {
       range = (next_step v.range l).1;
       few = omega (arith, v.few);

@@ -11,7 +11,8 @@ use Rattle.fields.specs.Fields.{GroupAt, Groups}
 use Rattle.frames.specs.declared.FrameRecord.{FrameRecord}
 use Rattle.frames.specs.Stored.{Stored}
 use Rattle.letters.specs.Letters.{Lies}
-use Rattle.bodies.specs.Held.{Held, SomeHeld, reason_number}
+use Rattle.bodies.specs.Reasons.{reason_number}
+use Rattle.bodies.specs.Held.{Held, SomeHeld}
 use Rattle.verdict.specs.Bounds.{body_fits}
 use Rattle.verdict.specs.Verdict.{same_at, Side, Ground, untyped, no_group, step_refused, type_outgrown, domain_outgrown, step_outgrown, different_bodies, place_of, Progress, Run, passed, stopped, Status, done, with_group, to_turn, finish}
 unfoldable pub use Rattle.verdict.specs.Verdict.{side_number}

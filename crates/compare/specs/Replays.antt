@@ -10,7 +10,8 @@ use Rattle.code.specs.Claims.{Stands}
 use Rattle.fields.specs.Fields.{read_steps}
 use Rattle.frames.specs.declared.FrameRecord.{FrameRecord}
 use Rattle.letters.specs.Letters.{Lies}
-use Rattle.bodies.specs.Held.{Held, reason_number}
+use Rattle.bodies.specs.Reasons.{reason_number}
+use Rattle.bodies.specs.Held.{Held}
 use Rattle.verdict.specs.Bounds.{body_fits}
 use Rattle.verdict.specs.Verdict.{step_refused, step_outgrown, Progress, turned, stopped, OtherSide, side_of, Configuration, Status, at_turn, done, side_from, to_turn, turn}
 use Rattle.compare.specs.declared.Replayed.{Replayed}

@@ -3,19 +3,18 @@
 #![tactic(auto)]
 
 ghost use Rattle.fields.specs.Fields.{StepRange};
-ghost use Rattle.frames.specs.Stored.{record_of};
 ghost use Rattle.bodies.specs.Held.{SomeHeld};
 ghost use Rattle.compare.specs.Replays.{Loadable, Loads, Replays};
 ghost use Rattle.compare.specs.Sides.{Buffers, TwoSides, Sides};
 ghost use Rattle.compare.specs.Compares.{Comparing, Compares, Typing, ComparesType};
 
-use bodies::{Form, type_in_place};
+use bodies::{StepError, type_in_place};
 use code::numbers::{
     ACCEPTED, BODIES_DIFFER, LONGEST_TERM, MOST_ABSTRACTORS, NO_GROUP_LEFT, NO_TYPE, OUTGROWN,
     STEP_NOT_POSSIBLE,
 };
 use fields::{GroupSpan, group_at, step_at};
-use frames::{Starts, Work};
+use frames::{FrameRecord, Work};
 use letters::{Letters, read, same};
 use steps::step_in_place;
 
@@ -61,30 +60,28 @@ fn replay(
     body: &mut Letters,
     n: usize,
     work: &Work,
-    starts: &Starts,
-    len: usize,
-    end: usize,
+    frame: &FrameRecord,
 ) -> Replayed
-    requires { StepRange file.now from to × SomeHeld work.now (record_of starts.now len end) body.old n }
-    ensures { Replays file.now from to side work.now (record_of starts.now len end) body.old body.new n result }
+    requires { StepRange file.now from to × SomeHeld work.now frame.now body.old n }
+    ensures { Replays file.now from to side work.now frame.now body.old body.new n result }
 {
     let mut at = from;
     let mut size = n;
     let mut step = 0;
     while at < to {
         let s = step_at(file, at);
-        let stepped = step_in_place(body, size, work, starts, len, end, s.kind, s.place);
+        let stepped = step_in_place(body, size, work, frame, s.kind, s.place);
         match stepped {
-            Form::Refused(reason) => {
+            Err(StepError::NotPossible(reason)) => {
                 return Replayed {
                     number: STEP_NOT_POSSIBLE,
                     len: 0,
                     side: side,
                     step: step,
-                    reason: reason as usize,
+                    reason: usize::from(reason),
                 };
             }
-            Form::Outgrown => {
+            Err(StepError::Outgrown) => {
                 return Replayed {
                     number: OUTGROWN,
                     len: 0,
@@ -93,7 +90,7 @@ fn replay(
                     reason: 0,
                 };
             }
-            Form::Length(m) => {
+            Ok(m) => {
                 size = m;
                 at += 3;
                 step += 1;
@@ -114,18 +111,16 @@ fn compare_sides(
     file: &[u8],
     g: GroupSpan,
     work: &Work,
-    starts: &Starts,
-    len: usize,
-    end: usize,
+    frame: &FrameRecord,
     left: &mut Letters,
     n: usize,
     right: &mut Letters,
     k: usize,
 ) -> Compared
-    requires { TwoSides file.now g work.now (record_of starts.now len end) left.old n right.old k }
-    ensures { Sides file.now g work.now (record_of starts.now len end) left.old n right.old k result left.new right.new × Buffers left.new right.new }
+    requires { TwoSides file.now g work.now frame.now left.old n right.old k }
+    ensures { Sides file.now g work.now frame.now left.old n right.old k result left.new right.new × Buffers left.new right.new }
 {
-    let l = replay(file, g.left, g.middle, 0, left, n, work, starts, len, end);
+    let l = replay(file, g.left, g.middle, 0, left, n, work, frame);
     if l.number != ACCEPTED {
         return Compared {
             number: l.number,
@@ -135,7 +130,7 @@ fn compare_sides(
             third: l.reason,
         };
     }
-    let r = replay(file, g.right, g.next, 1, right, k, work, starts, len, end);
+    let r = replay(file, g.right, g.next, 1, right, k, work, frame);
     if r.number != ACCEPTED {
         return Compared {
             number: r.number,
@@ -177,17 +172,15 @@ fn compare_type(
     file: &[u8],
     at: usize,
     work: &Work,
-    starts: &Starts,
-    len: usize,
-    end: usize,
+    frame: &FrameRecord,
     m: usize,
     e: usize,
     left: &mut Letters,
     n: usize,
     right: &mut Letters,
 ) -> Compared
-    requires { Typing file.now work.now at (record_of starts.now len end) m e left.old n × Buffers left.old right.old }
-    ensures { ComparesType file.now work.now at (record_of starts.now len end) m e left.old n result left.new right.new × Buffers left.new right.new }
+    requires { Typing file.now work.now at frame.now m e left.old n × Buffers left.old right.old }
+    ensures { ComparesType file.now work.now at frame.now m e left.old n result left.new right.new × Buffers left.new right.new }
 {
     if at >= file.len() {
         return Compared {
@@ -198,7 +191,7 @@ fn compare_type(
             third: 0,
         };
     }
-    if !load(work, m + 1, e, len, right) {
+    if !load(work, m + 1, e, frame.len, right) {
         return Compared {
             number: OUTGROWN,
             next: at,
@@ -208,7 +201,7 @@ fn compare_type(
         };
     }
     let g = group_at(file, at);
-    compare_sides(file, g, work, starts, len, end, left, n, right, e - (m + 1))
+    compare_sides(file, g, work, frame, left, n, right, e - (m + 1))
 }
 
 // The comparison of ⟨K⟩[U], which stands in the work array from the frame's end up to e, with the group at `at`: K ends at m. The two
@@ -217,29 +210,27 @@ pub fn compare(
     file: &[u8],
     at: usize,
     work: &Work,
-    starts: &Starts,
-    len: usize,
-    end: usize,
+    frame: &FrameRecord,
     m: usize,
     e: usize,
     left: &mut Letters,
     right: &mut Letters,
 ) -> Compared
-    requires { Comparing file.now work.now at (record_of starts.now len end) m e × Buffers left.old right.old }
-    ensures { Compares file.now work.now at (record_of starts.now len end) m e result left.new right.new × Buffers left.new right.new }
+    requires { Comparing file.now work.now at frame.now m e × Buffers left.old right.old }
+    ensures { Compares file.now work.now at frame.now m e result left.new right.new × Buffers left.new right.new }
 {
-    let start = end + 1;
-    let loaded = load(work, start, m, len, left);
-    let typed = type_in_place(left, m - start, work, starts, len, end);
+    let start = frame.end + 1;
+    let loaded = load(work, start, m, frame.len, left);
+    let typed = type_in_place(left, m - start, work, frame);
     match typed {
-        Form::Refused(_) => Compared {
+        Err(StepError::NotPossible(_)) => Compared {
             number: NO_TYPE,
             next: at,
             first: 0,
             second: 0,
             third: 0,
         },
-        Form::Outgrown => {
+        Err(StepError::Outgrown) => {
             if at >= file.len() {
                 return Compared {
                     number: NO_GROUP_LEFT,
@@ -257,6 +248,6 @@ pub fn compare(
                 third: 0,
             }
         }
-        Form::Length(n) => compare_type(file, at, work, starts, len, end, m, e, left, n, right),
+        Ok(n) => compare_type(file, at, work, frame, m, e, left, n, right),
     }
 }

@@ -3,7 +3,7 @@
 #![tactic(auto)]
 
 ghost use Rattle.std.specs.Prelude.{◌≡◌, ◌≤◌};
-ghost use Rattle.frames.specs.Stored.{Holding, EmptyRecord, SomeTermFrom, EndAt, EntryAt, Parted, Looked, record_of};
+ghost use Rattle.frames.specs.Stored.{Holding, EmptyRecord, SomeTermFrom, EndAt, EntryAt, Parted, Looked};
 ghost use Rattle.frames.specs.Claims.{FrameLaws};
 
 use code::numbers::{LONGEST_STATE, MOST_ABSTRACTORS};
@@ -15,7 +15,7 @@ pub type Work = [u8; LONGEST_STATE];
 // The place of each entry.
 pub type Starts = [u16; MOST_ABSTRACTORS];
 
-#[derive(Drop)]
+#[derive(Clone, Copy)]
 pub struct FrameRecord {
     pub starts: Starts,
     pub len: usize,
@@ -39,12 +39,6 @@ pub fn empty_frame() -> FrameRecord
         len: 0,
         end: 0,
     }
-}
-
-fn wide(x: u16) -> usize
-    ensures { result ≡ x }
-{
-    x as usize
 }
 
 // Where the term that starts at p ends.
@@ -75,17 +69,18 @@ fn parts_of(work: &Work, p: usize, e: usize) -> Span
     }
 }
 
-// The parts of the entry that index k means. The record comes in its parts, so that looking an entry up does not copy it.
-pub fn entry_at(work: &Work, starts: &Starts, len: usize, end: usize, k: usize) -> Span
-    requires { Holding work.now (record_of starts.now len end) × (1 ≤ k) × (k ≤ len) }
-    ensures { Looked work.now (record_of starts.now len end) k result }
+// The parts of the entry that index k means.
+pub fn entry_at(work: &Work, frame: &FrameRecord, k: usize) -> Span
+    requires { Holding work.now frame.now × (1 ≤ k) × (k ≤ frame.now.len) }
+    ensures { Looked work.now frame.now k result }
 {
-    let i = len - k;
-    let p = wide(starts[i]);
-    let mut e = end;
-    if k > 1 {
-        e = wide(starts[i + 1]);
-    }
+    let i = frame.len - k;
+    let p = usize::from(frame.starts[i]);
+    let e = if k > 1 {
+        usize::from(frame.starts[i + 1])
+    } else {
+        frame.end
+    };
     parts_of(work, p, e)
 }
 

@@ -7,7 +7,7 @@ ghost use Rattle.streams.specs.Clauses.{number_room, Added};
 ghost use Rattle.program.specs.Clauses.{opening_room, place_room, side_room, condition_room, sentence_room, body_room, explanation_room, LineEnd, BodiesAt};
 
 use crate::add_answer;
-use bodies::{NO_PARTNER, PAST_END, UNKNOWN_KIND, WRONG_SYMBOL};
+use bodies::Reason;
 use code::numbers::{
     ACCEPTED, BEYOND_SCOPE, BODIES_DIFFER, CUT_SHORT, LONGEST_TERM, NO_GROUP_LEFT, NO_TYPE,
     NOT_ONE_TERM, OUTGROWN, STEP_NOT_POSSIBLE, STILL_WAITING, TOO_LONG, TOO_MANY_IN_SCOPE,
@@ -81,24 +81,24 @@ fn add_condition(text: &mut [u8], at: usize, condition: usize) -> usize
     requires { at + condition_room ≤ length text.old }
     ensures { Added at condition_room text.old result text.new }
 {
-    if condition == UNKNOWN_KIND as usize {
+    if condition == usize::from(Reason::UnknownKind) {
         return streams::add_text(text, at, b"its kind is not 1, 2 or 3.\n");
     }
-    if condition == PAST_END as usize {
+    if condition == usize::from(Reason::PastEnd) {
         return streams::add_text(
             text,
             at,
             b"its place is past the end of the body, as the steps before left it.\n",
         );
     }
-    if condition == WRONG_SYMBOL as usize {
+    if condition == usize::from(Reason::WrongSymbol) {
         return streams::add_text(
             text,
             at,
             b"the symbol at its place is not one that its kind takes: a variable (kind 1) or an applicator (kinds 2 and 3).\n",
         );
     }
-    if condition == NO_PARTNER as usize {
+    if condition == usize::from(Reason::NoPartner) {
         return streams::add_text(
             text,
             at,

@@ -9,9 +9,10 @@ use native.Mathlib.Numerals.{add-one}
 use lib.ListN.{length, get_or}
 use Rattle.std.specs.Prelude.{None, Some}
 use Rattle.std.proofs.lemmas.List.Edits.{get_or-between}
+use Rattle.std.specs.Prelude.{Ok, Err, Result}
 use Rattle.calculus.specs.Terms.{Term, tau, var, app, abs, size}
 use Rattle.calculus.specs.Frames.{Frame, depth}
-use Rattle.calculus.specs.Steps.{removal, whole, couples, reach_of, kind_in, Reason, unknown_kind, past_end, wrong_symbol, no_partner, still_used, Outcome, refused, map_outcome, remove, fill, step_here, step_of, step_by, step}
+use Rattle.calculus.specs.Steps.{removal, whole, couples, reach_of, kind_in, wrong_symbol, Outcome, refused, map_outcome, remove, fill, step_here, step_of, step_by, step}
 use Rattle.code.specs.Limits.{longest_term, most_abstractors}
 use Rattle.code.specs.Scope.{scope}
 use Rattle.frames.specs.declared.FrameRecord.{FrameRecord}
@@ -20,9 +21,12 @@ use Rattle.parts.proofs.Cut.{length_part}
 use Rattle.letters.specs.Letters.{applicator, abstractor, symbol_of, depth_of, height_of, Lies}
 use Rattle.letters.proofs.Letters.{first, depth_letter, lies_end}
 use Rattle.bodies.specs.Ways.{Way, put, frame_at, depth_at, height_at}
-use Rattle.bodies.specs.Held.{Held, reason_number, SteppedAs, step_refused, Steps}
+use Rattle.bodies.specs.declared.Reason.{Reason}
+use Rattle.bodies.specs.declared.Reason.TheVariants.{WrongSymbol, NoPartner}
+use Rattle.bodies.specs.declared.StepError.TheVariants.{NotPossible}
+use Rattle.bodies.specs.Reasons.{said}
+use Rattle.bodies.specs.Held.{Held, SteppedAs, step_refused, Steps}
 use Rattle.bodies.specs.Moving.{Ending}
-use Rattle.bodies.specs.declared.Form.TheVariants.{Refused}
 use Rattle.bodies.proofs.Ways.{step_along}
 use Rattle.bodies.proofs.Extents.{Parts, app_parts, abs_parts, above}
 use Rattle.bodies.proofs.Endings.{ending_is}
@@ -83,7 +87,7 @@ module _ {s : List ℕ} {n p : ℕ} {R : Frame} {t : Term} (x : AppAt s n p R t)
 
 -- ---- The couple ⟨K⟩..[U]B: K ends at m, the abstractor stands at a, U ends at q, and B at e.
 abbrev found_at : (o d m a q e : ℕ) → Couple
-found_at o d m a q e = record { reason = 0; outer = o; depth = d; between = m; abstractor = a; rest = q; end = e }
+found_at o d m a q e = record { outer = o; depth = d; between = m; abstractor = a; rest = q; end = e }
 
 couple_of : {s : List ℕ} {n p m a q e c y j : ℕ} {R : Frame} {t U B : Term} (x : AppAt s n p R t) → Ending s n (p + 1) (H x + 1) m → a ≡ m + y → Tail x.C y 0 j (abs U B)
     → Ending s n (a + 1) (H x + 1) q → Ending s n q (H x) e → c ≡ depth_of (get_or s a 0) → CoupleAt s n p R t (found_at (D x) c m a q e)
@@ -126,14 +130,6 @@ couple_of {s} {n} {p} {m} {a} {q} {e} {c} {y} {j} {R} {t} {U} {B} x i r w k l z 
       inside = omega (arith, T.inside);
     }
 
-reason_positive : (r : Reason) → 1 ≤ reason_number r
-unfolding reason_number
-reason_positive unknown_kind = omega arith
-reason_positive past_end = omega arith
-reason_positive wrong_symbol = omega arith
-reason_positive no_partner = omega arith
-reason_positive still_used = omega arith
-
 -- ---- By the contracts of the calls.
 module _ {s : List ℕ} {n p : ℕ} (g : InSomeBody s n p) where
   abbrev here : Held g.work g.frames s n g.in_body.some_held.frame g.in_body.some_held.term
@@ -142,12 +138,12 @@ module _ {s : List ℕ} {n p : ℕ} (g : InSomeBody s n p) where
   pub bounds : (length s ≡ longest_term) × (n ≤ longest_term) × (p + 1 ≤ n)
   bounds = (here.array, omega (arith, lies_end here.lies, here.array), omega (arith, g.in_body.inside))
 
-  pub wrong : {x : ℕ} {r : Couple} → x ≡ symbol_of (get_or s p 0) → (x ≡ applicator → ⊥) → r.reason ≡ 3 → Searches s n p r
-  unfolding reason_number map_outcome
-  wrong q z e = record {
+  pub wrong : {x : ℕ} → x ≡ symbol_of (get_or s p 0) → (x ≡ applicator → ⊥) → Searches s n p (Err WrongSymbol)
+  unfolding said map_outcome
+  wrong q z = record {
     all = λ w f R t y. let u = way_there y g.in_body.inside in
         let o = wrong_here (frame_at R [] u.1) u.0 (λ r. z (q ∙ (at_way y u.1).symbol ∙ r)) in
-        no_couple {y = wrong_symbol} e (removal_here R u.1 o.0) (whole_here R u.1 o.1);
+        no_couple (removal_here R u.1 o.0) (whole_here R u.1 o.1);
   }
 
   module _ (x : symbol_of (get_or s p 0) ≡ applicator) {h : ℕ} (a : h ≡ height_of (get_or s p 0)) {m : ℕ} (i : Ending s n (p + 1) (h + 1) m) where
@@ -169,12 +165,12 @@ module _ {s : List ℕ} {n p : ℕ} (g : InSomeBody s n p) where
     pub some_tail : SomeTail s n m h
     some_tail = record { array = here.array; most = bounds.1; low = omega (arith, high_is here, (found here).at.low, i.after); e = E (found here); c = D (found here); C = (found here).C; tail = tail_of here }
 
-    pub alone : {r : Couple} → Partnered s n m h None → r.reason ≡ 4 → Searches s n p r
-    unfolding reason_number map_outcome step_here
-    alone {r} j e = record { all = λ w f R t y. go y (j.all (E (found y)) (D (found y)) (found y).C (tail_of y)) }
+    pub alone : Partnered s n m h None → Searches s n p (Err NoPartner)
+    unfolding said map_outcome step_here
+    alone j = record { all = λ w f R t y. go y (j.all (E (found y)) (D (found y)) (found y).C (tail_of y)) }
       where
-        go : {w : List ℕ} {f : FrameRecord} {R : Frame} {t : Term} (y : Held w f s n R t) → PartnerIs m (found y).C None → Sought s n p R t r
-        go {R = R} y (nobody v) = no_couple {y = no_partner} e (removal_here R (found y).way (v remove (found y).K)) (whole_here R (found y).way (v fill (found y).K))
+        go : {w : List ℕ} {f : FrameRecord} {R : Frame} {t : Term} (y : Held w f s n R t) → PartnerIs m (found y).C None → Sought s n p R t (Err NoPartner)
+        go {R = R} y (nobody v) = no_couple (removal_here R (found y).way (v remove (found y).K)) (whole_here R (found y).way (v fill (found y).K))
 
     module _ {b : ℕ} (j : Partnered s n m h (Some b)) where
       partner : {w : List ℕ} {f : FrameRecord} {R : Frame} {t : Term} (y : Held w f s n R t) → (q : ℕ) × (k : ℕ) × (U : Term) × (B : Term) × (b ≡ m + q) × Tail (found y).C q 0 k (abs U B)
@@ -192,17 +188,16 @@ module _ {s : List ℕ} {n p : ℕ} (g : InSomeBody s n p) where
             subst (λ v. CoupleAt s n p R t (found_at v d m b q e)) (sym (c_is ∙ (found y).at.deep))
             (couple_of (found y) (one y) o.4 o.5 (subst (λ v. Ending s n (b + 1) (v + 1) q) (high_is y) k) (subst (λ v. Ending s n q v e) (high_is y) l) d_is)
 
-        pub couple_found : Searches s n p (found_at c d m b q e)
-        couple_found = record { all = λ w f R t y. couple_there refl (coupled y) }
+        pub couple_found : Searches s n p (Ok (found_at c d m b q e))
+        couple_found = record { all = λ w f R t y. couple_there (coupled y) }
 
   -- The couple that was found.
-  module _ {x : Couple} (c : Searches s n p x) (e : x.reason ≡ 0) where
+  module _ {r : Result Couple Reason} {x : Couple} (c : Searches s n p r) (e : r ≡ Ok x) where
     pub couple_of_body : {w : List ℕ} {f : FrameRecord} {R : Frame} {t : Term} → Held w f s n R t → CoupleAt s n p R t x
-    couple_of_body {w} {f} {R} {t} y = go (c.all w f R t y)
+    couple_of_body {w} {f} {R} {t} y = go (subst (Sought s n p R t) e (c.all w f R t y))
       where
-        go : Sought s n p R t x → CoupleAt s n p R t x
-        go (no_couple {y = r} q a b) = absurd (omega (arith, reason_positive r))
-        go (couple_there q a) = a
+        go : Sought s n p R t (Ok x) → CoupleAt s n p R t x
+        go (couple_there a) = a
 
     pub some_couple : SomeCouple s p x
     some_couple = let o = couple_of_body here in record { array = here.array; h = height_at 0 o.way; d = depth g.in_body.some_held.frame; j = o.j; K = o.K; U = o.U; B = o.B; lies = o.lies }
@@ -231,10 +226,9 @@ module _ {s : List ℕ} {p : ℕ} {x : Couple} (g : SomeCouple s p x) where
   )
 
 -- ---- Where there is none, both kinds are refused.
-pub search_refused : {s : List ℕ} {n p : ℕ} {x : Couple} → Searches s n p x → (x.reason ≡ 0 → ⊥) → (w : List ℕ) (f : FrameRecord)
-    → Steps w f s s n (record { kind = 2; place = p }) (Refused x.reason) × Steps w f s s n (record { kind = 3; place = p }) (Refused x.reason)
-search_refused {s} {n} {p} {x} c e w f = (record { all = λ R t y. (go R t (c.all w f R t y)).0; same_length = refl }, record { all = λ R t y. (go R t (c.all w f R t y)).1; same_length = refl })
+pub search_refused : {s : List ℕ} {n p : ℕ} {r : Result Couple Reason} {y : Reason} → Searches s n p r → r ≡ Err y → (w : List ℕ) (f : FrameRecord)
+    → Steps w f s s n (record { kind = 2; place = p }) (Err (NotPossible y)) × Steps w f s s n (record { kind = 3; place = p }) (Err (NotPossible y))
+search_refused {s} {n} {p} {y = y} c e w f = (record { all = λ R t h. (go R t (subst (Sought s n p R t) e (c.all w f R t h))).0; same_length = refl }, record { all = λ R t h. (go R t (subst (Sought s n p R t) e (c.all w f R t h))).1; same_length = refl })
   where
-    go : (R : Frame) (t : Term) → Sought s n p R t x → SteppedAs w f s R (record { kind = 2; place = p }) t (Refused x.reason) × SteppedAs w f s R (record { kind = 3; place = p }) t (Refused x.reason)
-    go R t (no_couple q a b) = (step_refused a q, step_refused b q)
-    go R t (couple_there q a) = absurd (e q)
+    go : (R : Frame) (t : Term) → Sought s n p R t (Err y) → SteppedAs w f s R (record { kind = 2; place = p }) t (Err (NotPossible y)) × SteppedAs w f s R (record { kind = 3; place = p }) t (Err (NotPossible y))
+    go R t (no_couple a b) = (step_refused a, step_refused b)

@@ -8,6 +8,7 @@ use native.Mathlib.Omega.{arith}
 use lib.ListN.{length, take, drop}
 use borrow.Rule.Slice.PartMut.{put_mid}
 use lib.Seq.{paste, sets, sets-eq, take-append-add}
+use Rattle.std.specs.Prelude.{Ok, Err, Result}
 use Rattle.calculus.specs.Terms.{Term, size}
 use Rattle.calculus.specs.Frames.{Frame}
 use Rattle.calculus.specs.Steps.{still_used, reached, refused, map_outcome, lower, unused, remove, at_partner, step_here, step}
@@ -21,9 +22,12 @@ use Rattle.frames.specs.declared.FrameRecord.{FrameRecord}
 use Rattle.letters.specs.Letters.{letters}
 use Rattle.letters.proofs.Letters.{length_letters, lies_end}
 use Rattle.bodies.specs.Ways.{put, depth_at, height_at}
-use Rattle.bodies.specs.Held.{Held, reason_number, SteppedAs, step_refused, step_reached, Steps}
+use Rattle.bodies.specs.declared.Reason.{Reason}
+use Rattle.bodies.specs.declared.Reason.TheVariants.{StillUsed}
+use Rattle.bodies.specs.declared.StepError.TheVariants.{NotPossible}
+use Rattle.bodies.specs.Reasons.{said}
+use Rattle.bodies.specs.Held.{Held, SteppedAs, step_refused, step_reached, Steps}
 use Rattle.bodies.specs.Moving.{Mapped, Spliced}
-use Rattle.bodies.specs.declared.Form.TheVariants.{Refused, Length}
 use Rattle.bodies.proofs.Places.{put_held}
 use Rattle.steps.specs.Lowering.{lowered_letter, uses_of, InScope}
 use Rattle.steps.specs.Couples.{InSomeBody, instead, SomeCouple, remaining, CoupleAt, Searches}
@@ -86,14 +90,14 @@ module _ {W : List ℕ} {f : FrameRecord} {s : List ℕ} {n p : ℕ} {R : Frame}
 
   module _ (g : SomeCouple s p x) {s₁ s₂ s₃ : List ℕ} (c : Copied s x.between x.abstractor s s₁ p) where
     removed : uses_of x.depth (part s x.rest x.end) ≡ 0 → Mapped (lowered_letter x.depth) s₁ s₁ s₂ x.rest x.end x.rest → Copied s₂ x.rest n s₂ s₃ at
-        → SteppedAs W f s₃ R (record { kind = 2; place = p }) t (Length (n - (x.rest - at)))
+        → SteppedAs W f s₃ R (record { kind = 2; place = p }) t (Ok (n - (x.rest - at)))
     unfolding map_outcome unused size scope
     removed u a d = go (uses_none o.lies.rest few u)
       where
         most : n ≤ longest_term
         most = omega (arith, lies_end y.lies, y.array)
 
-        go : (L : Term) × (lower 0 o.B ≡ some L) → SteppedAs W f s₃ R (record { kind = 2; place = p }) t (Length (n - (x.rest - at)))
+        go : (L : Term) × (lower 0 o.B ≡ some L) → SteppedAs W f s₃ R (record { kind = 2; place = p }) t (Ok (n - (x.rest - at)))
         go (L, r) =
             let l = o.lies in
             let z : step R (record { kind = 2; place = p }) t ≡ reached (put o.way (instead o.tail L)) = removes r in
@@ -110,7 +114,7 @@ module _ {W : List ℕ} {f : FrameRecord} {s : List ℕ} {n p : ℕ} {R : Frame}
             (a.letters_there ∙ ap (sets s₁ x.rest) (ap (map (lowered_letter x.depth)) same ∙ lowered_lies l.rest few r)) a.same_length d))))
 
 -- ---- By the contracts of the calls.
-module _ {s : List ℕ} {n p : ℕ} (g : InSomeBody s n p) {x : Couple} (c : Searches s n p x) (e : x.reason ≡ 0) where
+module _ {s : List ℕ} {n p : ℕ} (g : InSomeBody s n p) {v : Result Couple Reason} {x : Couple} (c : Searches s n p v) (e : v ≡ Ok x) where
   abbrev there : SomeCouple s p x
   there = some_couple g c e
 
@@ -132,11 +136,11 @@ module _ {s : List ℕ} {n p : ℕ} (g : InSomeBody s n p) {x : Couple} (c : Sea
     moved_scope = subst (λ v. InScope v x.depth) (ap (take (x.end - x.rest)) (sym (later_letters there a x.rest (omega (arith, places there))))) (in_scope there).0
 
   module _ {r : ℕ} (q : r ≡ uses_of x.depth (part s x.rest x.end)) where
-    pub still : (r ≡ 0 → ⊥) → (w : List ℕ) (f : FrameRecord) → Steps w f s s n (record { kind = 2; place = p }) (Refused 5)
-    unfolding reason_number
-    still u w f = record { all = λ R t y. step_refused (still_uses y (couple_of_body g c e y) (λ v. u (q ∙ v))) refl; same_length = refl }
+    pub still : (r ≡ 0 → ⊥) → (w : List ℕ) (f : FrameRecord) → Steps w f s s n (record { kind = 2; place = p }) (Err (NotPossible StillUsed))
+    unfolding said
+    still u w f = record { all = λ R t y. step_refused (still_uses y (couple_of_body g c e y) (λ v. u (q ∙ v))); same_length = refl }
 
     pub gone : {s₁ s₂ s₃ : List ℕ} → r ≡ 0 → Copied s x.between x.abstractor s s₁ p → Mapped (lowered_letter x.depth) s₁ s₁ s₂ x.rest x.end x.rest
         → Copied s₂ x.rest n s₂ s₃ (p + (x.abstractor - x.between)) → (w : List ℕ) (f : FrameRecord)
-        → Steps w f s s₃ n (record { kind = 2; place = p }) (Length (n - (x.rest - (p + (x.abstractor - x.between)))))
+        → Steps w f s s₃ n (record { kind = 2; place = p }) (Ok (n - (x.rest - (p + (x.abstractor - x.between)))))
     gone u a v o w f = record { all = λ R t y. removed y (couple_of_body g c e y) there a (sym q ∙ u) v o; same_length = o.same_length ∙ v.same_length ∙ a.same_length }

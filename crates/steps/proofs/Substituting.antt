@@ -8,9 +8,10 @@ use mathlib.Core.List.{List, [], ◌++◌}
 use native.Mathlib.Omega.{arith}
 use lib.ListN.{length}
 use borrow.Author.Tests.{ne_eqb}
+use Rattle.std.specs.Prelude.{Ok, Err, Result}
 use Rattle.calculus.specs.Terms.{Term, app, size, lift}
 use Rattle.calculus.specs.Frames.{Frame, depth}
-use Rattle.calculus.specs.Steps.{Kind, local, removal, whole, couples, latest, reach_of, kind_in, unknown_kind, past_end, reached, map_outcome, substitute, fill, at_partner, step_here, step_of, step_by, step}
+use Rattle.calculus.specs.Steps.{Kind, local, removal, whole, couples, latest, reach_of, kind_in, reached, map_outcome, substitute, fill, at_partner, step_here, step_of, step_by, step}
 use Rattle.calculus.proofs.Lift.{lo, hi, cmp}
 use Rattle.calculus.proofs.Closed.{closedness}
 use Rattle.calculus.proofs.Places.{step_past}
@@ -22,10 +23,12 @@ use Rattle.frames.proofs.Laws.{stored_depth}
 use Rattle.letters.specs.Letters.{letters}
 use Rattle.letters.proofs.Letters.{length_letters, lies_taken}
 use Rattle.bodies.specs.Ways.{put, depth_at, height_at}
-use Rattle.bodies.specs.Held.{Held, reason_number, SteppedAs, step_refused, step_reached, Steps}
+use Rattle.bodies.specs.declared.Reason.{Reason}
+use Rattle.bodies.specs.declared.Reason.TheVariants.{UnknownKind, PastEnd}
+use Rattle.bodies.specs.declared.StepError.TheVariants.{NotPossible, Outgrown}
+use Rattle.bodies.specs.Reasons.{said}
+use Rattle.bodies.specs.Held.{Held, Form, SteppedAs, step_refused, step_reached, Steps}
 use Rattle.bodies.specs.Moving.{Spliced}
-use Rattle.bodies.specs.declared.Form.{Form}
-use Rattle.bodies.specs.declared.Form.TheVariants.{Refused, Outgrown, Length}
 use Rattle.bodies.proofs.Extents.{first_height}
 use Rattle.bodies.proofs.Places.{over_long, too_deep, put_held}
 use Rattle.steps.specs.Couples.{InBodyAfter, instead, SomeCouple, remaining, CoupleAt, Searches}
@@ -78,14 +81,14 @@ module _ {W : List ℕ} {f : FrameRecord} {s : List ℕ} {n p : ℕ} {R : Frame}
     unfolding size
     kept_is = omega (arith, sizes, o.lies.order, o.lies.place, o.lies.argument.place, o.lies.rest.place, o.inside, o.ends)
 
-    longer : longest_term < n - (x.end - p) + (x.abstractor - x.between) + r → SteppedAs W f s R (record { kind = 3; place = p }) t Outgrown
+    longer : longest_term < n - (x.end - p) + (x.abstractor - x.between) + r → SteppedAs W f s R (record { kind = 3; place = p }) t (Err Outgrown)
     longer h = step_reached reaches (over_long y o.way form (omega (arith, kept_is)))
 
     module _ {d : ℕ} (a : DepthIs s p x d) where
       depth_here : d ≡ deepest_use x.depth (letters (suc x.depth) H o.B) + scope J
       depth_here = a.all H (depth R) o.j o.K o.U o.B o.lies ∙ ap (λ z. deepest_use x.depth z + scope o.K) (lies_taken o.lies.rest) ∙ ap (deepest_use x.depth (letters (suc x.depth) H o.B) +◌) (sym (scope_lift o.j 0 o.K))
 
-      deeper : most_abstractors - depth R + 1 < d → SteppedAs W f s R (record { kind = 3; place = p }) t Outgrown
+      deeper : most_abstractors - depth R + 1 < d → SteppedAs W f s R (record { kind = 3; place = p }) t (Err Outgrown)
       deeper h = step_reached reaches (too_deep y o.way form
           (omega (
             arith,
@@ -112,7 +115,7 @@ module _ {W : List ℕ} {f : FrameRecord} {s : List ℕ} {n p : ℕ} {R : Frame}
             )
 
         substituted : {s' : List ℕ} → n - (x.end - p) + (x.abstractor - x.between) + r ≤ longest_term → Spliced s s' n p x.end (remaining s x ++ filling s p x)
-            → SteppedAs W f s' R (record { kind = 3; place = p }) t (Length (n - (x.end - p) + (x.abstractor - x.between) + r))
+            → SteppedAs W f s' R (record { kind = 3; place = p }) t (Ok (n - (x.end - p) + (x.abstractor - x.between) + r))
         substituted {s'} l g = step_reached reaches (put_held y o.way form (closedness.step_closed (record { kind = 3; place = p }) y.closed_frame y.closed reaches) shallow l
             kept_is o.ends (subst (Spliced s s' n p x.end) form_is g))
 
@@ -121,7 +124,7 @@ module _ {len : ℕ} {s : List ℕ} {n p : ℕ} (g : InBodyAfter len s n p) wher
   pub len_most : len ≤ most_abstractors
   len_most = let y = g.some_body.in_body.some_held.held in omega (arith, g.entries, stored_depth y.stored, y.shallow)
 
-  module _ {x : Couple} (c : Searches s n p x) (e : x.reason ≡ 0) where
+  module _ {v : Result Couple Reason} {x : Couple} (c : Searches s n p v) (e : v ≡ Ok x) where
     pub the_couple : SomeCouple s p x
     the_couple = some_couple g.some_body c e
 
@@ -129,11 +132,11 @@ module _ {len : ℕ} {s : List ℕ} {n p : ℕ} (g : InBodyAfter len s n p) wher
     kept_inside = (couple_inside g.some_body c e, (bounds g.some_body).1)
 
     module _ {r : ℕ} (q : r ≡ length (filling s p x)) where
-      pub long : longest_term < n - (x.end - p) + (x.abstractor - x.between) + r → (w : List ℕ) (f : FrameRecord) → f.len ≡ len → Steps w f s s n (record { kind = 3; place = p }) Outgrown
+      pub long : longest_term < n - (x.end - p) + (x.abstractor - x.between) + r → (w : List ℕ) (f : FrameRecord) → f.len ≡ len → Steps w f s s n (record { kind = 3; place = p }) (Err Outgrown)
       long h w f l = record { all = λ R t y. longer y (couple_of_body g.some_body c e y) q h; same_length = refl }
 
       module _ {d : ℕ} (a : DepthIs s p x d) where
-        pub deep : most_abstractors - len + 1 < d → (w : List ℕ) (f : FrameRecord) → f.len ≡ len → Steps w f s s n (record { kind = 3; place = p }) Outgrown
+        pub deep : most_abstractors - len + 1 < d → (w : List ℕ) (f : FrameRecord) → f.len ≡ len → Steps w f s s n (record { kind = 3; place = p }) (Err Outgrown)
         deep h w f l = record { all = λ R t y. deeper y (couple_of_body g.some_body c e y) q a (omega (arith, stored_depth y.stored)); same_length = refl }
 
         module _ (h : n - (x.end - p) + (x.abstractor - x.between) + r ≤ longest_term) (b : d ≤ most_abstractors - len + 1) where
@@ -148,7 +151,7 @@ module _ {len : ℕ} {s : List ℕ} {n p : ℕ} (g : InBodyAfter len s n p) wher
           }
 
           pub done : {s' : List ℕ} → Spliced s s' n p x.end (remaining s x ++ filling s p x) → (w : List ℕ) (f : FrameRecord) → f.len ≡ len
-              → Steps w f s s' n (record { kind = 3; place = p }) (Length (n - (x.end - p) + (x.abstractor - x.between) + r))
+              → Steps w f s s' n (record { kind = 3; place = p }) (Ok (n - (x.end - p) + (x.abstractor - x.between) + r))
           done o w f l = record { all = λ R t y. substituted y (couple_of_body g.some_body c e y) q a (omega (arith, stored_depth y.stored)) h o; same_length = o.same_length }
 
 -- ---- No step.
@@ -163,14 +166,14 @@ kind_known k a b = elim (cmp k 1) [
 ]
 
 module _ {w : List ℕ} {f : FrameRecord} {s : List ℕ} {n : ℕ} where
-  pub past_refused : {k p : ℕ} → 1 ≤ k → k ≤ 3 → n ≤ p → Steps w f s s n (record { kind = k; place = p }) (Refused 2)
-  unfolding step_by step_of reach_of reason_number
+  pub past_refused : {k p : ℕ} → 1 ≤ k → k ≤ 3 → n ≤ p → Steps w f s s n (record { kind = k; place = p }) (Err (NotPossible PastEnd))
+  unfolding step_by step_of reach_of said
   past_refused {k} {p} a b l = let o = kind_known k a b in
-      record { all = λ R t y. step_refused {x = past_end} (ap (λ z. step_of couples z R t p) o.1 ∙ step_past couples o.0 R [] t p (omega (arith, y.lies.place))) refl; same_length = refl }
+      record { all = λ R t y. step_refused {x = PastEnd} (ap (λ z. step_of couples z R t p) o.1 ∙ step_past couples o.0 R [] t p (omega (arith, y.lies.place))); same_length = refl }
 
-  pub kind_refused : {k p : ℕ} → (k ≡ 1 → ⊥) → (k ≡ 2 → ⊥) → (k ≡ 3 → ⊥) → Steps w f s s n (record { kind = k; place = p }) (Refused 1)
-  unfolding step_by step_of reach_of kind_in reason_number
-  kind_refused {k} {p} a b c = record { all = λ R t y. step_refused {x = unknown_kind} (rw (ne_eqb k 1 a, ne_eqb k 2 b, ne_eqb k 3 c)) refl; same_length = refl }
+  pub kind_refused : {k p : ℕ} → (k ≡ 1 → ⊥) → (k ≡ 2 → ⊥) → (k ≡ 3 → ⊥) → Steps w f s s n (record { kind = k; place = p }) (Err (NotPossible UnknownKind))
+  unfolding step_by step_of reach_of kind_in said
+  kind_refused {k} {p} a b c = record { all = λ R t y. step_refused {x = UnknownKind} (rw (ne_eqb k 1 a, ne_eqb k 2 b, ne_eqb k 3 c) refl); same_length = refl }
 
   pub as_kind : {s' : List ℕ} {k k' p : ℕ} {r : Form} → k ≡ k' → Steps w f s s' n (record { kind = k'; place = p }) r → Steps w f s s' n (record { kind = k; place = p }) r
   as_kind q h = rw q h

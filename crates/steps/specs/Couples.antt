@@ -1,16 +1,18 @@
 -- A couple of a body, on which kinds 2 and 3 work.
 -- Assumes nothing.
-use Rattle.std.specs.Prelude.{ℕ, suc, ◌+◌, ◌≤◌, ◌≡◌, Option, None, Some, List, [], ◌∷◌, ◌++◌, length}
+use Rattle.std.specs.Prelude.{ℕ, suc, ◌+◌, ◌≤◌, ◌≡◌, Option, None, Some, List, [], ◌∷◌, ◌++◌, length, Ok, Err, Result}
 use Rattle.calculus.specs.Terms.{Term, app, abs, size}
 use Rattle.calculus.specs.Frames.{Frame, depth}
-use Rattle.calculus.specs.Steps.{Reason, no_partner, couples, Outcome, refused, at_partner, step}
+use Rattle.calculus.specs.Steps.{no_partner, couples, Outcome, refused, at_partner, step}
 use Rattle.code.specs.Limits.{longest_term, most_abstractors}
 use Rattle.code.specs.Scope.{scope}
 use Rattle.parts.specs.Parts.{part}
 use Rattle.frames.specs.declared.FrameRecord.{FrameRecord}
 use Rattle.letters.specs.Letters.{letter, letters, applicator, abstractor, Lies}
 use Rattle.bodies.specs.Ways.{Way, depth_at, height_at}
-use Rattle.bodies.specs.Held.{Held, InBody, reason_number}
+use Rattle.bodies.specs.declared.Reason.{Reason}
+use Rattle.bodies.specs.Reasons.{said}
+use Rattle.bodies.specs.Held.{Held, InBody}
 use Rattle.steps.specs.declared.Couple.{Couple}
 
 -- Place p is in a body after some frame; after one of len entries.
@@ -108,9 +110,9 @@ pub record CoupleAt (s : List ℕ) (n p : ℕ) (R : Frame) (t : Term) (x : Coupl
   pub inside : x.end ≤ n
 
 -- What the search for it says: there is none, so that steps of kinds 2 and 3 are refused alike, or it is there.
-pub data Sought (s : List ℕ) (n p : ℕ) (R : Frame) (t : Term) (x : Couple) : Type 0 where
-  no_couple : {y : Reason} → x.reason ≡ reason_number y → step R (record { kind = 2; place = p }) t ≡ refused y → step R (record { kind = 3; place = p }) t ≡ refused y → Sought s n p R t x
-  couple_there : x.reason ≡ 0 → CoupleAt s n p R t x → Sought s n p R t x
+pub data Sought (s : List ℕ) (n p : ℕ) (R : Frame) (t : Term) : Result Couple Reason → Type 0 where
+  no_couple : {y : Reason} → step R (record { kind = 2; place = p }) t ≡ refused (said y) → step R (record { kind = 3; place = p }) t ≡ refused (said y) → Sought s n p R t (Err y)
+  couple_there : {x : Couple} → CoupleAt s n p R t x → Sought s n p R t (Ok x)
 
-pub record Searches (s : List ℕ) (n p : ℕ) (x : Couple) : Type 0 where
-  pub all : (w : List ℕ) (f : FrameRecord) (R : Frame) (t : Term) → Held w f s n R t → Sought s n p R t x
+pub record Searches (s : List ℕ) (n p : ℕ) (r : Result Couple Reason) : Type 0 where
+  pub all : (w : List ℕ) (f : FrameRecord) (R : Frame) (t : Term) → Held w f s n R t → Sought s n p R t r

@@ -4,7 +4,6 @@
 ghost use Rattle.std.specs.Prelude.{◌≡◌, List, ◌++◌, map, ℕ, ◌+◌, ◌-◌, ◌≤◌, ◌<◌, length};
 ghost use Rattle.code.specs.Limits.{longest_term};
 ghost use Rattle.frames.specs.declared.FrameRecord.{FrameRecord as Record};
-ghost use Rattle.frames.specs.Stored.{record_of};
 ghost use Rattle.letters.specs.Letters.{depth_of};
 ghost use Rattle.bodies.specs.Held.{SomeHeld, Steps};
 ghost use Rattle.bodies.specs.Moving.{Spliced};
@@ -13,40 +12,22 @@ ghost use Rattle.steps.specs.Lifting.{LettersLiftable, LettersLifted};
 ghost use Rattle.steps.specs.Couples.{InSomeBody, InBodyAfter, SomeTail, Partnered, remaining, Searches};
 ghost use Rattle.steps.specs.Filling.{use_depth, UsesAre, filling, LetterFillable, LetterFills, Fillable, Fills, Rewritable};
 
-use bodies::{
-    Form, NO_PARTNER, PAST_END, STILL_USED, UNKNOWN_KIND, WRONG_SYMBOL, deepest, end_of,
-    lifted_letter, local, narrow,
-};
+use bodies::{Reason, StepError, deepest, end_of, lifted_letter, local, narrow};
 use code::numbers::{LONGEST_TERM, MOST_ABSTRACTORS};
-use frames::{Starts, Work};
+use frames::{FrameRecord, Work};
 use letters::{APPLICATOR, Letters, depth_of, height_of, symbol_of, wide};
 
 // ---- Couples.
 // The couple ⟨K⟩..[U]B at a place: the depths of its applicator and of its abstractor, and the places of what stands between, of its
-// abstractor, of B and of B's end. If there is none, why.
+// abstractor, of B and of B's end.
 #[derive(Clone, Copy)]
 struct Couple {
-    reason: u32,
     outer: u32,
     depth: u32,
     between: usize,
     abstractor: usize,
     rest: usize,
     end: usize,
-}
-
-fn no_couple(reason: u32) -> Couple
-    ensures { result.reason ≡ reason }
-{
-    Couple {
-        reason: reason,
-        outer: 0,
-        depth: 0,
-        between: 0,
-        abstractor: 0,
-        rest: 0,
-        end: 0,
-    }
 }
 
 // The place of the abstractor that matches an applicator of height h, where the train goes on at m behind its K, if there is one. Of the
@@ -73,31 +54,30 @@ fn abstractor_after(s: &Letters, n: usize, m: usize, h: usize) -> Option<usize>
     None
 }
 
-// The couple at place p of the body in the first n letters.
-fn couple_at(s: &Letters, n: usize, p: usize) -> Couple
+// The couple at place p of the body in the first n letters, or why there is none.
+fn couple_at(s: &Letters, n: usize, p: usize) -> Result<Couple, Reason>
     requires { InSomeBody s.now n p }
     ensures { Searches s.now n p result }
 {
     let v = s[p];
     if symbol_of(v) != APPLICATOR {
-        return no_couple(WRONG_SYMBOL);
+        return Err(Reason::WrongSymbol);
     }
     let h = height_of(v);
     let m = end_of(s, n, p + 1, h + 1);
     let Some(a) = abstractor_after(s, n, m, h) else {
-        return no_couple(NO_PARTNER);
+        return Err(Reason::NoPartner);
     };
     let q = end_of(s, n, a + 1, h + 1);
     let e = end_of(s, n, q, h);
-    Couple {
-        reason: 0,
+    Ok(Couple {
         outer: narrow(depth_of(v)),
         depth: narrow(depth_of(s[a])),
         between: m,
         abstractor: a,
         rest: q,
         end: e,
-    }
+    })
 }
 
 // ---- The rest of a couple, without its abstractor.
@@ -165,15 +145,11 @@ fn measure(rest: &[u32], c: u32) -> Uses
 
 // ---- A removal.
 // Kind 2 at place p. What stands between stays as it is.
-fn removal(s: &mut Letters, n: usize, p: usize) -> Form
+fn removal(s: &mut Letters, n: usize, p: usize) -> Result<usize, StepError>
     requires { InSomeBody s.old n p }
     ensures { (w : List ℕ) (f : Record) → Steps w f s.old s.new n (record { kind = 2; place = p }) result }
 {
-    let x = couple_at(s, n, p);
-    let reason = x.reason;
-    if reason > 0 {
-        return Form::Refused(reason);
-    }
+    let x = couple_at(s, n, p)?;
     let c = x.depth;
     let m = x.between;
     let a = x.abstractor;
@@ -182,13 +158,13 @@ fn removal(s: &mut Letters, n: usize, p: usize) -> Form
     let u = measure(&s[q..e], c);
     let count = u.count;
     if count > 0 {
-        return Form::Refused(STILL_USED);
+        return Err(StepError::NotPossible(Reason::StillUsed));
     }
     s.copy_within(m..a, p);
     lower_part(&mut s[q..e], c);
     let at = p + (a - m);
     s.copy_within(q..n, at);
-    Form::Length(n - (q - at))
+    Ok(n - (q - at))
 }
 
 // ---- The whole substitution.
@@ -260,15 +236,11 @@ fn substitute(s: &mut Letters, n: usize, p: usize, x: Couple, size: usize)
 }
 
 // Kind 3 at place p, after a frame of len entries. Only the final form is measured, before anything is written.
-fn whole(s: &mut Letters, n: usize, p: usize, len: usize) -> Form
+fn whole(s: &mut Letters, n: usize, p: usize, len: usize) -> Result<usize, StepError>
     requires { InBodyAfter len s.old n p }
     ensures { (w : List ℕ) (f : Record) → f.len ≡ len → Steps w f s.old s.new n (record { kind = 3; place = p }) result }
 {
-    let x = couple_at(s, n, p);
-    let reason = x.reason;
-    if reason > 0 {
-        return Form::Refused(reason);
-    }
+    let x = couple_at(s, n, p)?;
     let o = x.outer;
     let c = x.depth;
     let m = x.between;
@@ -281,43 +253,41 @@ fn whole(s: &mut Letters, n: usize, p: usize, len: usize) -> Form
     let kept = n - (e - p) + (a - m);
     let size = e - q + wide(count) * (m - p - 2);
     if kept + size > LONGEST_TERM {
-        return Form::Outgrown;
+        return Err(StepError::Outgrown);
     }
     if most + (deepest(s, p + 1, m) - o) > narrow(MOST_ABSTRACTORS - len) + 1 {
-        return Form::Outgrown;
+        return Err(StepError::Outgrown);
     }
     substitute(s, n, p, x, size);
-    Form::Length(kept + size)
+    Ok(kept + size)
 }
 
-// ---- One step on the body in the first n letters, after the frame whose record is lent in its parts: the form that it reaches takes the body's place.
+// ---- One step on the body in the first n letters, after the frame: the form that it reaches takes the body's place.
 pub fn step_in_place(
     s: &mut Letters,
     n: usize,
     work: &Work,
-    starts: &Starts,
-    len: usize,
-    end: usize,
+    frame: &FrameRecord,
     kind: u8,
     place: usize,
-) -> Form
-    requires { SomeHeld work.now (record_of starts.now len end) s.old n }
-    ensures { Steps work.now (record_of starts.now len end) s.old s.new n (record { kind = kind; place = place }) result }
+) -> Result<usize, StepError>
+    requires { SomeHeld work.now frame.now s.old n }
+    ensures { Steps work.now frame.now s.old s.new n (record { kind = kind; place = place }) result }
 {
     if kind == 0 {
-        return Form::Refused(UNKNOWN_KIND);
+        return Err(StepError::NotPossible(Reason::UnknownKind));
     }
     if kind > 3 {
-        return Form::Refused(UNKNOWN_KIND);
+        return Err(StepError::NotPossible(Reason::UnknownKind));
     }
     if place >= n {
-        return Form::Refused(PAST_END);
+        return Err(StepError::NotPossible(Reason::PastEnd));
     }
     if kind == 1 {
-        return local(s, n, work, starts, len, end, place);
+        return local(s, n, work, frame, place);
     }
     if kind == 2 {
         return removal(s, n, place);
     }
-    whole(s, n, place, len)
+    whole(s, n, place, frame.len)
 }

@@ -664,7 +664,7 @@ fn turn(
 }
 
 // The check of what stands at a place of the term's own text, with nothing waiting: a loop of turns, and a call for what stands inside each
-// applicator and abstractor. The frame is lent in its parts and copied once, into a record that grows here.
+// applicator and abstractor. The frame is copied once, into a record that grows here.
 #[cycle(inside_term)]
 fn term(
     file: &[u8],
@@ -679,23 +679,16 @@ fn term(
     reach: &mut usize,
     left: &mut Letters,
     right: &mut Letters,
-    starts: &Starts,
-    len: usize,
-    end: usize,
+    frame: &FrameRecord,
     place: usize,
     top: usize,
     next: usize,
     comparisons: usize,
 ) -> Walked
-    requires { Known t.now sizes.now scopes.now × Stated (text_of file.now t.now) (arrays_of work.old list.old domains.old origins.old reach.old) (record_of starts.now len end) (start_of place top next comparisons) × Buffers left.old right.old × DepthsKnown t.now depths.now }
-    ensures { Checks (text_of file.now t.now) (arrays_of work.old list.old domains.old origins.old reach.old) (arrays_of work.new list.new domains.new origins.new reach.new) (record_of starts.now len end) (start_of place top next comparisons) left.new right.new result × Buffers left.new right.new }
+    requires { Known t.now sizes.now scopes.now × Stated (text_of file.now t.now) (arrays_of work.old list.old domains.old origins.old reach.old) frame.now (start_of place top next comparisons) × Buffers left.old right.old × DepthsKnown t.now depths.now }
+    ensures { Checks (text_of file.now t.now) (arrays_of work.old list.old domains.old origins.old reach.old) (arrays_of work.new list.new domains.new origins.new reach.new) frame.now (start_of place top next comparisons) left.new right.new result × Buffers left.new right.new }
 {
-    let own = *starts;
-    let mut f = FrameRecord {
-        starts: own,
-        len,
-        end,
-    };
+    let mut f = *frame;
     let mut z = WalkState {
         own: true,
         checked: false,
@@ -724,7 +717,7 @@ fn term(
         if kind == INNER {
             let q = inside(
                 file, t, sizes, scopes, depths, work, list, domains, origins, reach, left, right,
-                &f.starts, f.len, f.end, z,
+                &f, z,
             );
             if q.number != ACCEPTED {
                 return q;
@@ -736,9 +729,7 @@ fn term(
             let at = f.end;
             if kind == COMPARE {
                 let o = r.out;
-                let q = compare(
-                    file, z.next, work, &f.starts, n, at, o.first, r.end, left, right,
-                );
+                let q = compare(file, z.next, work, &f, o.first, r.end, left, right);
                 let stops = q.number != ACCEPTED;
                 if stops {
                     return Walked {
@@ -782,13 +773,11 @@ fn inside(
     reach: &mut usize,
     left: &mut Letters,
     right: &mut Letters,
-    starts: &Starts,
-    len: usize,
-    end: usize,
+    frame: &FrameRecord,
     s: WalkState,
 ) -> Walked
-    requires { Known t.now sizes.now scopes.now × InnerAt (text_of file.now t.now) (arrays_of work.old list.old domains.old origins.old reach.old) (record_of starts.now len end) s × Buffers left.old right.old × DepthsKnown t.now depths.now }
-    ensures { Checks (text_of file.now t.now) (arrays_of work.old list.old domains.old origins.old reach.old) (arrays_of work.new list.new domains.new origins.new reach.new) (record_of starts.now len end) (inner_of s) left.new right.new result × Buffers left.new right.new }
+    requires { Known t.now sizes.now scopes.now × InnerAt (text_of file.now t.now) (arrays_of work.old list.old domains.old origins.old reach.old) frame.now s × Buffers left.old right.old × DepthsKnown t.now depths.now }
+    ensures { Checks (text_of file.now t.now) (arrays_of work.old list.old domains.old origins.old reach.old) (arrays_of work.new list.new domains.new origins.new reach.new) frame.now (inner_of s) left.new right.new result × Buffers left.new right.new }
 {
     term(
         file,
@@ -803,9 +792,7 @@ fn inside(
         reach,
         left,
         right,
-        starts,
-        len,
-        end,
+        frame,
         s.place + 1,
         s.top,
         s.next,
@@ -847,9 +834,7 @@ fn whole(
         &mut reach,
         left,
         right,
-        &f.starts,
-        f.len,
-        f.end,
+        &f,
         0,
         0,
         at,

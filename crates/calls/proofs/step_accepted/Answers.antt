@@ -2,6 +2,7 @@
 -- Assumes nothing.
 use mathlib.Core.Path.{refl}
 use mathlib.Core.List.{[]}
+use Rattle.std.proofs.Common.{◌∙◌, ap, Err}
 use Rattle.calls.proofs.Writing.{some_held, step_answers, answers_unmet, answers_large, answers_letters, answers_done}
 use Rattle.calls.proofs.step_accepted.Goals as goal
 
@@ -12,13 +13,13 @@ pub step_in_place-stepped-requires : goal.step_in_place-stepped-requires
 step_in_place-stepped-requires c = some_held c.requires c.open_body.ensures c.empty_frame-f.ensures refl
 
 pub deliver-requires : goal.deliver-requires
-deliver-requires c = let u = answers_letters (step_answers c.requires c.open_body.ensures c.empty_frame-f.ensures refl [] c.step_in_place-stepped.ensures) c.in-Length.is in (u.0, u.1)
+deliver-requires c = let u = answers_letters (step_answers c.requires c.open_body.ensures c.empty_frame-f.ensures refl [] c.step_in_place-stepped.ensures) c.in-Ok.is in (u.0, u.1)
 
-pub returns-in-Refused : goal.returns-in-Refused
-returns-in-Refused c = answers_unmet (step_answers c.requires c.open_body.ensures c.empty_frame-f.ensures refl _ c.step_in_place-stepped.ensures) c.in-Refused.is
+pub returns-in-Err-NotPossible : goal.returns-in-Err-NotPossible
+returns-in-Err-NotPossible c = answers_unmet (step_answers c.requires c.open_body.ensures c.empty_frame-f.ensures refl _ c.step_in_place-stepped.ensures) (let w = c.in-Err-NotPossible in w.is ∙ ap Err (rw w.is at w.field-0-is))
 
-pub returns-in-Outgrown : goal.returns-in-Outgrown
-returns-in-Outgrown c = answers_large (step_answers c.requires c.open_body.ensures c.empty_frame-f.ensures refl _ c.step_in_place-stepped.ensures) c.in-Outgrown.is
+pub returns-in-Err-Outgrown : goal.returns-in-Err-Outgrown
+returns-in-Err-Outgrown c = answers_large (step_answers c.requires c.open_body.ensures c.empty_frame-f.ensures refl _ c.step_in_place-stepped.ensures) (let w = c.in-Err-Outgrown in w.is ∙ ap Err (rw w.is at w.field-0-is))
 
-pub returns-in-Length : goal.returns-in-Length
-returns-in-Length c = answers_done (step_answers c.requires c.open_body.ensures c.empty_frame-f.ensures refl _ c.step_in_place-stepped.ensures) c.in-Length.is c.deliver.ensures
+pub returns-in-Ok : goal.returns-in-Ok
+returns-in-Ok c = answers_done (step_answers c.requires c.open_body.ensures c.empty_frame-f.ensures refl _ c.step_in_place-stepped.ensures) c.in-Ok.is c.deliver.ensures

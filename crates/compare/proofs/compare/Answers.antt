@@ -1,5 +1,6 @@
 -- `compare::compare` meets its contract.
 -- Assumes nothing.
+use Rattle.std.proofs.Common.{◌∙◌, ap, Err}
 use Rattle.compare.proofs.Answers.{applied_loads, some_applied, untyped_answer, no_group_answer, large_type_answer, typed_long, typing, typed_answer}
 use Rattle.compare.proofs.compare.Goals as goal
 
@@ -10,16 +11,16 @@ pub type_in_place-typed-requires : goal.type_in_place-typed-requires
 type_in_place-typed-requires c = some_applied c.requires.0 c.requires.1.left_long c.load-loaded.ensures
 
 pub returns-then-at-file : goal.returns-then-at-file
-returns-then-at-file c = (no_group_answer c.requires.0 c.requires.1.left_long c.load-loaded.ensures c.type_in_place-typed.ensures c.in-Outgrown.is c.if-at-file.true, record { left_long = typed_long c.requires.0 c.requires.1.left_long c.load-loaded.ensures c.type_in_place-typed.ensures; right_long = c.requires.1.right_long })
+returns-then-at-file c = (no_group_answer c.requires.0 c.requires.1.left_long c.load-loaded.ensures c.type_in_place-typed.ensures (let w = c.in-Err-Outgrown in w.is ∙ ap Err (rw w.is at w.field-0-is)) c.if-at-file.true, record { left_long = typed_long c.requires.0 c.requires.1.left_long c.load-loaded.ensures c.type_in_place-typed.ensures; right_long = c.requires.1.right_long })
 
 pub compare_type-requires : goal.compare_type-requires
-compare_type-requires c = (typing c.requires.0 c.requires.1.left_long c.load-loaded.ensures c.type_in_place-typed.ensures c.in-Length.is, record { left_long = typed_long c.requires.0 c.requires.1.left_long c.load-loaded.ensures c.type_in_place-typed.ensures; right_long = c.requires.1.right_long })
+compare_type-requires c = (typing c.requires.0 c.requires.1.left_long c.load-loaded.ensures c.type_in_place-typed.ensures c.in-Ok.is, record { left_long = typed_long c.requires.0 c.requires.1.left_long c.load-loaded.ensures c.type_in_place-typed.ensures; right_long = c.requires.1.right_long })
 
-pub returns-in-Refused : goal.returns-in-Refused
-returns-in-Refused c = (untyped_answer c.requires.0 c.requires.1.left_long c.load-loaded.ensures c.type_in_place-typed.ensures c.in-Refused.is, record { left_long = typed_long c.requires.0 c.requires.1.left_long c.load-loaded.ensures c.type_in_place-typed.ensures; right_long = c.requires.1.right_long })
+pub returns-in-Err-NotPossible : goal.returns-in-Err-NotPossible
+returns-in-Err-NotPossible c = (untyped_answer c.requires.0 c.requires.1.left_long c.load-loaded.ensures c.type_in_place-typed.ensures (let w = c.in-Err-NotPossible in w.is ∙ ap Err (rw w.is at w.field-0-is)), record { left_long = typed_long c.requires.0 c.requires.1.left_long c.load-loaded.ensures c.type_in_place-typed.ensures; right_long = c.requires.1.right_long })
 
 pub returns-else-at-file : goal.returns-else-at-file
-returns-else-at-file c = (large_type_answer c.requires.0 c.requires.1.left_long c.load-loaded.ensures c.type_in_place-typed.ensures c.in-Outgrown.is c.if-at-file.false, record { left_long = typed_long c.requires.0 c.requires.1.left_long c.load-loaded.ensures c.type_in_place-typed.ensures; right_long = c.requires.1.right_long })
+returns-else-at-file c = (large_type_answer c.requires.0 c.requires.1.left_long c.load-loaded.ensures c.type_in_place-typed.ensures (let w = c.in-Err-Outgrown in w.is ∙ ap Err (rw w.is at w.field-0-is)) c.if-at-file.false, record { left_long = typed_long c.requires.0 c.requires.1.left_long c.load-loaded.ensures c.type_in_place-typed.ensures; right_long = c.requires.1.right_long })
 
-pub returns-in-Length : goal.returns-in-Length
-returns-in-Length c = (typed_answer c.requires.0 c.requires.1.left_long c.load-loaded.ensures c.type_in_place-typed.ensures c.in-Length.is c.compare_type.ensures.0, c.compare_type.ensures.1)
+pub returns-in-Ok : goal.returns-in-Ok
+returns-in-Ok c = (typed_answer c.requires.0 c.requires.1.left_long c.load-loaded.ensures c.type_in_place-typed.ensures c.in-Ok.is c.compare_type.ensures.0, c.compare_type.ensures.1)

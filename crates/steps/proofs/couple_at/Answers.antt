@@ -12,7 +12,7 @@ pub bounds-s-p : goal.bounds-s-p
 bounds-s-p c = omega (arith, bounds c.requires)
 
 pub returns-then-symbol_of-ne-APPLICATOR : goal.returns-then-symbol_of-ne-APPLICATOR
-returns-then-symbol_of-ne-APPLICATOR c = wrong c.requires c.symbol_of.ensures.0 c.if-symbol_of-ne-APPLICATOR.true c.no_couple.ensures
+returns-then-symbol_of-ne-APPLICATOR c = wrong c.requires c.symbol_of.ensures.0 c.if-symbol_of-ne-APPLICATOR.true
 
 pub end_of-m-requires : goal.end_of-m-requires
 end_of-m-requires c = bounds c.requires
@@ -21,7 +21,7 @@ pub abstractor_after-requires : goal.abstractor_after-requires
 abstractor_after-requires c = some_tail c.requires (sym c.symbol_of.ensures.0 ∙ c.if-symbol_of-ne-APPLICATOR.false) c.height_of-h.ensures.0 c.end_of-m.ensures
 
 pub returns-in_default : goal.returns-in_default
-returns-in_default c = alone c.requires (sym c.symbol_of.ensures.0 ∙ c.if-symbol_of-ne-APPLICATOR.false) c.height_of-h.ensures.0 c.end_of-m.ensures c.in_default.ensures c.no_couple-in_default.ensures
+returns-in_default c = alone c.requires (sym c.symbol_of.ensures.0 ∙ c.if-symbol_of-ne-APPLICATOR.false) c.height_of-h.ensures.0 c.end_of-m.ensures c.in_default.ensures
 
 pub overflow_add-a : goal.overflow_add-a
 overflow_add-a c = omega (arith, bounds c.requires, partner_inside c.requires (sym c.symbol_of.ensures.0 ∙ c.if-symbol_of-ne-APPLICATOR.false) c.height_of-h.ensures.0 c.end_of-m.ensures c.in-Some.ensures)
