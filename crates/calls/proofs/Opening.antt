@@ -4,7 +4,7 @@ use Prim.Native.Nat.{ℕ}
 use mathlib.Core.Path.{◌≡◌, refl, ap, sym, ◌∙◌}
 use mathlib.Core.List.{List, []}
 use Rattle.fields.specs.Fields.{read_file, term_bytes, layout_of}
-use Rattle.fields.specs.declared.Layout.{Layout}
+use Rattle.fields.specs.Fields.{Layout}
 use Rattle.fields.proofs.Groups.{if_accepted, if_refused, accepts}
 use Rattle.examine.specs.Inspect.{Examined, examined, term_answer_of, term_answer}
 use Rattle.examine.specs.declared.TermAnswer.{TermAnswer}

@@ -37,14 +37,14 @@ pub struct StepAnswer {
 pub fn examine_file<'a>(s: &'a [u8], number: &mut u32, place: &mut usize) -> &'a [u8]
     ensures { FileAnswered number.new place.new result.now (file_answer s.now) }
 {
-    let fields = fields::read_fields(s);
-    let code = fields.number;
-    if code != ACCEPTED {
-        *number = code;
-        *place = fields.place;
-        return &s[..0];
-    }
-    let end = fields.end;
+    let end = match fields::read_fields(s) {
+        Ok(layout) => layout.end,
+        Err(refusal) => {
+            *number = u32::from(refusal.condition);
+            *place = refusal.place;
+            return &s[..0];
+        }
+    };
     let part = fields::term_part(s, end);
     let term = examine::examine_term(part);
     *number = term.number;

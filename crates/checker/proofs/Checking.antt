@@ -14,7 +14,7 @@ use Rattle.code.specs.Code.{Bytes, encode}
 use Rattle.code.proofs.RoundTrip.{encode_decode}
 use Rattle.fields.specs.Fields.{GroupAt, Groups, done, more, read_file, term_bytes, layout_of}
 use Rattle.fields.specs.Claims.{HasFields}
-use Rattle.fields.specs.declared.Layout.{Layout}
+use Rattle.fields.specs.Fields.{Layout}
 use Rattle.fields.proofs.Groups.{if_accepted, if_refused, accepts, accepted_only, none_left, room}
 use Rattle.examine.specs.Inspect.{Examined, examined, term_answer_of, term_answer}
 use Rattle.examine.specs.Inspect as term

@@ -33,17 +33,17 @@ pub struct OpenAnswer {
 pub fn open_file(s: &[u8]) -> OpenAnswer
     ensures { OpenedAs result (open_file s.now) }
 {
-    let fields = fields::read_fields(s);
-    let number = fields.number;
-    if number != ACCEPTED {
-        return OpenAnswer {
-            number,
-            place: fields.place,
-            end: 0,
-            degree: 0,
-        };
-    }
-    let end = fields.end;
+    let end = match fields::read_fields(s) {
+        Ok(layout) => layout.end,
+        Err(refusal) => {
+            return OpenAnswer {
+                number: u32::from(refusal.condition),
+                place: refusal.place,
+                end: 0,
+                degree: 0,
+            };
+        }
+    };
     let part = fields::term_part(s, end);
     let term = examine::examine_term(part);
     OpenAnswer {

@@ -8,9 +8,8 @@ use native.Mathlib.Omega.{arith}
 use lib.ListN.{length, length-take, length-drop}
 use lib.Dec.{ltb}
 use borrow.Author.Tests.{ltb-false}
-use Rattle.fields.specs.declared.Field.{Field}
-use Rattle.fields.specs.declared.Field.TheVariants.{Fault, End}
-use Rattle.fields.specs.declared.Layout.{Layout}
+use Rattle.fields.specs.Fields.{Field, Fault, End}
+use Rattle.fields.specs.Fields.{Layout}
 use Rattle.fields.specs.Fields.{body_end, read_step, steps_from, read_steps, GroupAt, span_at, group_at}
 use Rattle.code.specs.Limits.{longest_file}
 use Rattle.fields.specs.Fields.{group_end, Sequence, broken, sequence, first_then, groups_from, Fields, refused, accepted, then_fields, with_groups, read_file, layout_of, term_bytes}

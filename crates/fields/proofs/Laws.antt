@@ -8,8 +8,7 @@ use native.Mathlib.Omega.{arith}
 use lib.ListN.{length, get_or}
 use lib.Dec.{leb, ltb, eqb}
 use borrow.Author.Tests.{leb-true, leb-false, ltb-false, eqb-true, lt-ltb, le-ltb, le-leb, lt-leb, eq-eqb, ne_eqb}
-use Rattle.fields.specs.declared.Field.{Field}
-use Rattle.fields.specs.declared.Field.TheVariants.{Fault, End}
+use Rattle.fields.specs.Fields.{Field, Fault, End}
 use Rattle.fields.specs.Fields.{read_file, word, body_end, field_at, then_field, group_end, GroupAt, span_at, group_at, refused}
 use Rattle.code.specs.Limits.{longest_file}
 use Rattle.fields.specs.Fields.{Sequence, broken, sequence, first_then, then_sequence, sequence_from, groups_from, then_fields, with_groups, layout_with, Whole, GroupHere}
@@ -147,6 +146,16 @@ module _ (s : List ℕ) where
 
   pub groups_are : {at : ℕ} {q : Sequence GroupAt} → Found (group_end s) (group_at s) (length s) at q → groups_from s at ≡ q
   groups_are f = found_only (group_end s) (group_at s) (length s) (group_longer s) (length s) (omega arith) f
+
+-- The groups from a place on, by what stands there.
+pub no_groups : (s : List ℕ) (at : ℕ) → length s ≤ at → groups_from s at ≡ sequence []
+no_groups s at h = groups_are s (done {at = at} h)
+
+pub groups_fault : {n p : ℕ} (s : List ℕ) (at : ℕ) → at < length s → group_end s at ≡ Fault n p → groups_from s at ≡ broken n p
+groups_fault s at h q = groups_are s (stop {at = at} h q)
+
+pub groups_more : {m : ℕ} (s : List ℕ) (at : ℕ) → at < length s → group_end s at ≡ End m → groups_from s at ≡ first_then (group_at s at) (groups_from s m)
+groups_more s at h q = groups_are s (more {at = at} h q (groups_found s _) refl)
 
 -- A group more in the list, or counted before.
 pub layout_group : (n e : ℕ) (g : GroupAt) (q : Sequence GroupAt) → layout_with n (with_groups e (first_then g q)) ≡ layout_with (n + 1) (with_groups e q)

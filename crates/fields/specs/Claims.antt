@@ -2,7 +2,7 @@
 -- Assumes nothing.
 use Rattle.std.specs.Prelude.{ℕ, ◌+◌, ◌*◌, ◌≤◌, ◌<◌, ◌≡◌, ◌↔◌, List, [], ◌∷◌, map, length}
 use Rattle.calculus.specs.Rules.{Group}
-use Rattle.fields.specs.declared.Layout.{Layout}
+use Rattle.fields.specs.Fields.{Layout}
 use Rattle.fields.specs.Fields.{body_end, read_step, read_steps, GroupAt, refused, accepted}
 use Rattle.code.specs.Limits.{longest_file}
 use Rattle.code.specs.Refusals.{cut_short, too_long}

@@ -1,15 +1,37 @@
 -- The fields of a file (document 01, 'The file'): what is refused, in its order, and what an accepted file holds.
 -- Assumes nothing.
-use Rattle.std.specs.Prelude.{ℕ, zero, suc, ◌+◌, ◌*◌, ◌-◌, ◌/◌, ◌%◌, ◌≤◌, ◌≡◌, cond, not, List, [], ◌∷◌, length, get_or, take, drop, leb, ltb, eqb}
+use Rattle.std.specs.Prelude.{ℕ, zero, suc, ◌+◌, ◌*◌, ◌-◌, ◌/◌, ◌%◌, ◌≤◌, ◌≡◌, cond, not, Result, Ok, Err, List, [], ◌∷◌, length, get_or, take, drop, leb, ltb, eqb}
 use Rattle.calculus.specs.Steps.{Step}
 use Rattle.calculus.specs.Rules.{Group}
 use Rattle.code.specs.Limits.{longest_file}
 use Rattle.code.specs.Refusals.{cut_short, wrong_field, too_long}
 use Rattle.code.specs.Refusals as refusals
-use Rattle.fields.specs.declared.Field.{Field}
-use Rattle.fields.specs.declared.Field.TheVariants.{Fault, End}
-use Rattle.fields.specs.declared.Layout.{Layout}
+use Rattle.code.specs.Refusals.{number_of}
+use Rattle.code.specs.declared.refusal.Refusal.{Refusal}
+use Rattle.fields.specs.declared.Layout as code_layout
 use Rattle.fields.specs.declared.GroupSpan.{GroupSpan}
+
+-- A field: its end, or the number and the place of its refusal.
+pub data Field : Type 0 where
+  Fault : (number place : ℕ) → Field
+  End : (end : ℕ) → Field
+
+-- What the code answers of a field says this.
+abbrev pub field_says : Result ℕ Refusal → Field
+field_says (Ok e) = End e
+field_says (Err r) = Fault (number_of r.condition) r.place
+
+-- A file: the number (0 where accepted) and place of the refusal; the end of the term's body; how many groups.
+pub record Layout : Type 0 where
+  pub number : ℕ
+  pub place : ℕ
+  pub end : ℕ
+  pub groups : ℕ
+
+-- What the code answers of a file says this.
+abbrev pub layout_says : Result code_layout.Layout Refusal → Layout
+layout_says (Ok l) = record { number = refusals.accepted; place = 0; end = l.end; groups = l.groups }
+layout_says (Err r) = record { number = number_of r.condition; place = r.place; end = 0; groups = 0 }
 
 -- The number in two bytes, high byte first.
 unfoldable pub word : List ℕ → ℕ → ℕ

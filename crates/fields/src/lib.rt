@@ -2,24 +2,16 @@
 #![tactic(auto)]
 
 ghost use Rattle.std.specs.Prelude.{◌≡◌, ◌+◌, ◌≤◌, ◌<◌, length};
-ghost use Rattle.fields.specs.Fields.{word, field_at, group_end, groups_from, with_groups, read_file, refused, layout_of, read_step, body_end, body_at, term_bytes, GroupHere, GroupParts};
+ghost use Rattle.fields.specs.Fields.{word, field_says, field_at, group_end, groups_from, with_groups, read_file, layout_says, layout_of, read_step, body_end, body_at, term_bytes, GroupHere, GroupParts};
 ghost use Rattle.fields.specs.Claims.{Reading, Writing};
 ghost use Rattle.fields.specs.Examples.{Examples};
 
-use code::numbers::{ACCEPTED, CUT_SHORT, LONGEST_FILE, TOO_LONG, WRONG_FIELD};
+use code::numbers::LONGEST_FILE;
+use code::refusal::{Condition, Refusal};
 
-// A field: its end, or the number and the place of its refusal.
-#[derive(Drop)]
-pub enum Field {
-    Fault(u32, usize),
-    End(usize),
-}
-
-// A file: the number (0 where accepted) and place of the refusal; the end of the term's body; how many groups.
-#[derive(Drop)]
+// A file: the end of the term's body; how many groups.
+#[derive(Clone, Copy)]
 pub struct Layout {
-    pub number: u32,
-    pub place: usize,
     pub end: usize,
     pub groups: usize,
 }
@@ -40,107 +32,75 @@ pub struct StepBytes {
     pub place: usize,
 }
 
-fn wide(b: u8) -> usize
-    ensures { (result ≡ b) × (result < 256) }
-{
-    b as usize
-}
-
 // The number in two bytes, high byte first.
+#[tactic(auto, unfolding(crate::specs::Fields::word))]
 fn word_at(s: &[u8], at: usize) -> usize
     requires { at + 2 ≤ length s.now }
     ensures { (result ≡ word s.now at) × (result < 65536) }
 {
-    let hi = wide(s[at]);
-    let lo = wide(s[at + 1]);
-    hi * 256 + lo
+    usize::from(u16::from_be_bytes([s[at], s[at + 1]]))
 }
 
-// The field at a place, where tag is due and its body is a multiple of unit bytes.
-pub fn read_field(s: &[u8], at: usize, tag: u8, unit: usize) -> Field
+// The end of the field at a place, where tag is due and its body is a multiple of unit bytes.
+#[tactic(auto, using(crate::proofs::Laws::head_cut, crate::proofs::Laws::wrong_tag, crate::proofs::Laws::body_cut, crate::proofs::Laws::no_multiple, crate::proofs::Laws::whole_ends))]
+pub fn read_field(s: &[u8], at: usize, tag: u8, unit: usize) -> Result<usize, Refusal>
     requires { (at ≤ length s.now) × (0 < unit) }
-    ensures { result ≡ field_at tag unit s.now at }
+    ensures { field_says result ≡ field_at tag unit s.now at }
 {
     if s.len() - at < 3 {
-        return Field::Fault(CUT_SHORT, at); // the head is cut short
+        return Err(Condition::CutShort.at(at)); // the head is cut short
     }
     let found = s[at];
     let n = word_at(s, at + 1);
     let left = s.len() - (at + 3);
     if found != tag {
-        return Field::Fault(WRONG_FIELD, at); // another tag
+        return Err(Condition::WrongField.at(at)); // another tag
     }
     if left < n {
-        return Field::Fault(CUT_SHORT, at); // the body is cut short
+        return Err(Condition::CutShort.at(at)); // the body is cut short
     }
     if n % unit != 0 {
-        return Field::Fault(WRONG_FIELD, at); // no multiple
+        return Err(Condition::WrongField.at(at)); // no multiple
     }
-    Field::End(at + 3 + n)
+    Ok(at + 3 + n)
 }
 
-// A tag 2 field, and the tag 3 field after it.
-fn read_group(s: &[u8], at: usize) -> Field
+// A tag 2 field, and the tag 3 field after it: its end.
+#[tactic(auto, using(crate::proofs::Laws::ended, crate::proofs::Laws::left_fault, crate::proofs::Laws::left_end))]
+fn read_group(s: &[u8], at: usize) -> Result<usize, Refusal>
     requires { at ≤ length s.now }
-    ensures { result ≡ group_end s.now at }
+    ensures { field_says result ≡ group_end s.now at }
 {
-    let left = read_field(s, at, 2, 3);
-    match left {
-        Field::Fault(n, p) => Field::Fault(n, p),
-        Field::End(m) => read_field(s, m, 3, 3),
-    }
-}
-
-fn refusal(number: u32, place: usize) -> Layout
-    ensures { result ≡ layout_of (refused number place) }
-{
-    Layout {
-        number,
-        place,
-        end: 0,
-        groups: 0,
-    }
+    let middle = read_field(s, at, 2, 3)?;
+    read_field(s, middle, 3, 3)
 }
 
 // The groups from the end of the term's body on.
-fn read_groups(s: &[u8], end: usize) -> Layout
+#[tactic(auto, using(crate::proofs::Laws::group_ended, crate::proofs::Laws::no_groups, crate::proofs::Laws::groups_fault, crate::proofs::Laws::groups_more, crate::proofs::Laws::layout_group), unfolding(crate::specs::Fields::with_groups))]
+fn read_groups(s: &[u8], end: usize) -> Result<Layout, Refusal>
     requires { end ≤ length s.now }
-    ensures { result ≡ layout_of (with_groups end (groups_from s.now end)) }
+    ensures { layout_says result ≡ layout_of (with_groups end (groups_from s.now end)) }
 {
     let mut at = end;
     let mut groups: usize = 0;
+    // Kept: no counted index, since each turn goes on by the length of the group that it reads.
     while at < s.len() {
-        let found = read_group(s, at);
-        match found {
-            Field::Fault(n, p) => {
-                return refusal(n, p);
-            }
-            Field::End(next) => {
-                at = next;
-                groups += 1;
-            }
-        }
+        at = read_group(s, at)?;
+        groups += 1;
     }
-    Layout {
-        number: ACCEPTED,
-        place: 0,
-        end,
-        groups,
-    }
+    Ok(Layout { end, groups })
 }
 
 // The tests of a file's length and fields, in one pass.
-pub fn read_fields(s: &[u8]) -> Layout
-    ensures { result ≡ layout_of (read_file s.now) }
+#[tactic(auto, using(crate::proofs::Laws::ended, crate::proofs::Laws::over_long, crate::proofs::Laws::term_fault, crate::proofs::Laws::term_end_lem))]
+pub fn read_fields(s: &[u8]) -> Result<Layout, Refusal>
+    ensures { layout_says result ≡ layout_of (read_file s.now) }
 {
     if LONGEST_FILE < s.len() {
-        return refusal(TOO_LONG, 0);
+        return Err(Condition::TooLong.at(0));
     }
-    let term = read_field(s, 0, 1, 1);
-    match term {
-        Field::Fault(n, p) => refusal(n, p),
-        Field::End(e) => read_groups(s, e),
-    }
+    let end = read_field(s, 0, 1, 1)?;
+    read_groups(s, end)
 }
 
 // The parts of the group whose tag 2 head is at a place.

@@ -11,8 +11,7 @@ use lib.Dec.{ltb, eqb}
 use borrow.Author.Tests.{le-ltb, ltb-true, ltb-false, eqb-true, ne_eqb}
 use Rattle.code.specs.Code.{Bytes}
 use Rattle.code.proofs.FirstZero.{no_length}
-use Rattle.fields.specs.declared.Field.{Field}
-use Rattle.fields.specs.declared.Field.TheVariants.{Fault, End}
+use Rattle.fields.specs.Fields.{Field, Fault, End}
 use Rattle.fields.specs.Fields.{word, body_end, body_at, field_at, Whole, Sequence, broken, sequence, first_then}
 use Rattle.fields.specs.Files.{write_field}
 use Rattle.fields.proofs.Laws.{whole_ends, Ended, ended, Found, done, stop, more, found, found_only}

@@ -8,7 +8,7 @@ use native.Mathlib.Omega.{arith}
 use lib.ListN.{length}
 use lib.Dec.{ltb, eqb}
 use borrow.Author.Tests.{lt-ltb, le-ltb, eq-eqb, ne_eqb}
-use Rattle.fields.specs.declared.Field.TheVariants.{Fault, End}
+use Rattle.fields.specs.Fields.{Fault, End}
 use Rattle.fields.specs.Fields.{body_end, body_at, field_at, Whole, Sequence, broken, sequence, first_then}
 use Rattle.fields.proofs.Laws.{Found, done, stop, more}
 use Rattle.files.specs.Check.{check_file}

@@ -1,8 +1,9 @@
 -- Inner contracts: what the pass over the heads finds.
 -- Assumes nothing.
-use Rattle.std.specs.Prelude.{ℕ, ◌≡◌, List}
-use Rattle.fields.specs.declared.Field.{Field}
-use Rattle.fields.specs.declared.Field.TheVariants.{Fault, End}
+use Rattle.std.specs.Prelude.{ℕ, ◌≡◌, Result, Ok, Err, List}
+use Rattle.code.specs.Refusals.{number_of}
+use Rattle.code.specs.declared.refusal.Refusal.{Refusal}
+use Rattle.fields.specs.Fields.{Field, Fault, End}
 use Rattle.fields.specs.Fields.{Sequence, broken, sequence}
 use Rattle.sets.specs.Sets.{files_from}
 
@@ -10,6 +11,11 @@ use Rattle.sets.specs.Sets.{files_from}
 unfoldable pub heads_of : ℕ → Sequence (List ℕ) → Field
 heads_of n (broken m p) = Fault m p
 heads_of n (sequence fs) = End n
+
+-- What the code answers says this.
+abbrev pub heads_say : ℕ → Result Unit Refusal → Field
+heads_say n (Ok tt) = End n
+heads_say n (Err r) = Fault (number_of r.condition) r.place
 
 -- Whole fields stand from a place on.
 pub record WholeFrom (s : List ℕ) (at : ℕ) : Type 0 where

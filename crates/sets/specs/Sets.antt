@@ -2,8 +2,7 @@
 -- Assumes nothing.
 use Rattle.std.specs.Prelude.{ℕ, ◌+◌, cond, List, [], ◌∷◌, length, ltb, eqb}
 use Rattle.code.specs.Refusals.{accepted, too_long, not_a_set}
-use Rattle.fields.specs.declared.Field.{Field}
-use Rattle.fields.specs.declared.Field.TheVariants.{Fault, End}
+use Rattle.fields.specs.Fields.{Field, Fault, End}
 use Rattle.fields.specs.Fields.{field_at, body_at, Sequence, broken, sequence, sequence_from}
 use Rattle.files.specs.Check.{CheckAnswer, check_file}
 use Rattle.sets.specs.declared.SetAnswer.{SetAnswer}

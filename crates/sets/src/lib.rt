@@ -3,11 +3,11 @@
 
 ghost use Rattle.std.specs.Prelude.{◌≡◌, length};
 ghost use Rattle.sets.specs.Sets.{files_from, read_set, check_from};
-ghost use Rattle.sets.specs.Clauses.{heads_of, WholeFrom};
+ghost use Rattle.sets.specs.Clauses.{heads_say, heads_of, WholeFrom};
 ghost use Rattle.sets.specs.Claims.{AcceptedSets, SetChecked};
 
-use code::numbers::{ACCEPTED, NOT_A_SET, TOO_LONG};
-use fields::Field;
+use code::numbers::ACCEPTED;
+use code::refusal::{Condition, Refusal};
 
 // The longest set, heads included.
 pub const LONGEST_SET: usize = 65535;
@@ -24,30 +24,24 @@ pub struct SetAnswer {
     pub degree: usize,
 }
 
-// The set's length and all its heads: its end, or the number and the place of its refusal.
-fn read_heads(s: &[u8]) -> Field
-    ensures { result ≡ heads_of (length s.now) (read_set s.now) }
+// The set's length and all its heads.
+#[tactic(auto, using(crate::proofs::Passes::over_length, crate::proofs::Passes::empty, crate::proofs::Passes::starts, crate::proofs::Passes::head_faulty, crate::proofs::Passes::head_whole, crate::proofs::Passes::heads_end, fields::proofs::Laws::ended))]
+fn read_heads(s: &[u8]) -> Result<(), Refusal>
+    ensures { heads_say (length s.now) result ≡ heads_of (length s.now) (read_set s.now) }
 {
     let n = s.len();
     if LONGEST_SET < n {
-        return Field::Fault(TOO_LONG, 0);
+        return Err(Condition::TooLong.at(0));
     }
     if n == 0 {
-        return Field::Fault(NOT_A_SET, 0); // no file
+        return Err(Condition::NotASet.at(0)); // no file
     }
     let mut at: usize = 0;
+    // Kept: no counted index, since each turn goes on by the length of the field that it reads.
     while at < n {
-        let found = fields::read_field(s, at, FILE_TAG, 1);
-        match found {
-            Field::Fault(_, _) => {
-                return Field::Fault(NOT_A_SET, at);
-            }
-            Field::End(next) => {
-                at = next;
-            }
-        }
+        at = fields::read_field(s, at, FILE_TAG, 1).map_err(|_| Condition::NotASet.at(at))?;
     }
-    Field::End(at)
+    Ok(())
 }
 
 // The files one after the other, up to the first that is refused.
@@ -88,16 +82,15 @@ fn check_files(s: &[u8]) -> SetAnswer
 pub fn check_set(s: &[u8]) -> SetAnswer
     ensures { SetChecked s.now result }
 {
-    let heads = read_heads(s);
-    match heads {
-        Field::Fault(number, place) => SetAnswer {
+    match read_heads(s) {
+        Err(refusal) => SetAnswer {
             file: 0,
-            number,
-            place,
+            number: u32::from(refusal.condition),
+            place: refusal.place,
             comparisons: 0,
             degree: 0,
         },
-        Field::End(_) => check_files(s),
+        Ok(()) => check_files(s),
     }
 }
 
