@@ -8,6 +8,7 @@ use mathlib.Core.List.{List, [], ◌∷◌}
 use native.Mathlib.Omega.{arith}
 use native.Mathlib.Numerals.{add-one}
 use lib.ListN.{length, get_or, length-set}
+use Rattle.std.specs.Prelude.{Some}
 use Rattle.calculus.specs.Terms.{Term, abs, size, lift, Closed, closed_abs}
 use Rattle.calculus.specs.Frames.{Entry, single, pair, domain, Frame, ◌▹◌}
 use Rattle.calculus.specs.Walks.{states_of}
@@ -35,9 +36,10 @@ use Rattle.waiting.specs.declared.Slot.{Slot}
 use Rattle.waiting.proofs.Texts.{positive, Two, text_abs}
 use Rattle.waiting.proofs.Queues.{size_lifted, scope_lifted, queue_empty, queue_base, Last, queue_last, queue_deeper, queue_agree, queue_before, raw_size, now_part, waits_writable, waits_written, seen, waits_at, kept_through}
 use Rattle.walk.specs.State.{Text, Arrays, Sound, sound_single, sound_pair, Reached, state_of, rest_of, agenda_of, OwnText, StateAt}
-use Rattle.walk.specs.Clauses.{answering, going, past_of, DepthsKnown, halts_compared, says_stopped, Becomes, becomes_answer, becomes_state}
+use Rattle.walk.specs.Clauses.{answering, past_of, DepthsKnown, halts_compared, says_stopped, Becomes, becomes_answer, becomes_state}
 use Rattle.walk.specs.declared.WalkState.{WalkState}
 use Rattle.walk.specs.declared.Turned.{Turned}
+use Rattle.walk.specs.declared.Turned.TheVariants.{State}
 use Rattle.walk.proofs.Rules.{rest_alone, rest_waiting, rest_copied}
 use Rattle.walk.proofs.Measures.{fewer_abs}
 use Rattle.walk.proofs.Waits.{no_queue}
@@ -279,10 +281,10 @@ module _ {x : Text} {m : Arrays} {f : FrameRecord} {s : WalkState} {R : Frame} {
       alone_room = omega (arith, o.fits, sizes)
 
       pub alone_becomes : {w₂ : List ℕ} {b : ℕ} (a c : List ℕ) → WrittenTerm 0xff m.work w₂ f.end b taken
-          → Becomes x (entry_arrays m w₂ f.len (f.end + 1) (s.origin + 1) b) f s a c (going 1 (past_of s n (s.cut + 1) s.middle s.top s.size s.scope s.next s.comparisons) true b)
+          → Becomes x (entry_arrays m w₂ f.len (f.end + 1) (s.origin + 1) b) f s a c (State (past_of s n (s.cut + 1) s.middle s.top s.size s.scope s.next s.comparisons) (Some b))
           (states_of (state_of s.own R W Q B)) (finish (rest_of s.own s.place R W Q B) p)
       unfolding domain
-      alone_becomes a c u = becomes_state refl
+      alone_becomes a c u = becomes_state
           (entered (single taken) refl (sound_single z.held.sound (part_at (sym (stored_depth z.held.stored)) taken_part)) u.work u.below u.above (single_bytes u) (rw add-one u.stands) z.held.waits z.held.copies
           (omega arith) (omega arith) (λ i. (no_q, (z.own_text i).tops, omega (arith, u.stands.place, taken_size))) z.held.size_is z.held.scope_is z.held.size_bound z.held.scope_bound z.reached)
           refl (fewer_is s.own R W (lift_waiting W) Q (lift_waiting Q) (single taken) B taken rest is_abs refl) (run_alone s.own s.place R p is_abs no_w no_q (place_is s.own refl))
@@ -404,11 +406,11 @@ module _ {x : Text} {m : Arrays} {f : FrameRecord} {s : WalkState} {R : Frame} {
           module _ {w₁ w₂ : List ℕ} {a b : ℕ} (u : Puts 0xfe m.work m.work w₁ (v.at + 1) (v.at + 1 + k) v.shift v.cut (f.len - v.depth) f.end a)
               (t : Puts 0xff (cond s.in_term x.term w₁) w₁ w₂ (s.from + 1) (s.from + 1 + n) s.shift s.cut 0 a b) where
             pub copied_becomes : (c d : List ℕ) → Becomes x (entry_arrays m w₂ f.len (a + 1) (s.origin + 1) b) f s c d
-                (going 1 (past_of s n (s.cut + 1) s.middle (s.top - 1) (s.size - (1 + k)) v.scope s.next s.comparisons) true b) (states_of (state_of s.own R W Q B)) (finish (rest_of s.own s.place R W Q B) p)
+                (State (past_of s n (s.cut + 1) s.middle (s.top - 1) (s.size - (1 + k)) v.scope s.next s.comparisons) (Some b)) (states_of (state_of s.own R W Q B)) (finish (rest_of s.own s.place R W Q B) p)
             unfolding domain
             copied_becomes c d =
                 let l = last_copied in
-                becomes_state refl
+                becomes_state
                 (pair_entered taken_copied g u t z.held.waits l.rest (omega arith) (omega arith) (λ i. no_confusion (sym is_copied ∙ i))
                 (omega (arith, z.held.size_is, sizes_copied.0, last_size taken_copied g)) (ap (λ r. r.scope) q ∙ l.scope_below) (omega (arith, z.held.size_bound)) (omega (arith, ap (λ r. r.scope) q, l.scope_below, z.held.scope_is, z.held.scope_bound, sizes_copied.1)) z.reached)
                 refl (fewer_is s.own R W (lift_waiting W) Q (lift_waiting l.others) (pair l.last.term taken) B taken rest is_abs refl)
@@ -520,23 +522,23 @@ module _ {x : Text} {m : Arrays} {f : FrameRecord} {s : WalkState} {R : Frame} {
               where
                 go : {r : Run} → CompareSays x.file s.next d left right last_waiting.last.place p r → Comes_to (answering d.number v.place d.first d.second d.third s) (and_then r (After R))
                 go (compare_passed gs i j k l m) = absurd (h i)
-                go (compare_stopped i j k) = becomes_answer refl (says_stopped (halts_compared i refl (place_of_v ∙ sym j) refl refl refl) (sym z.reached.counted ∙ sym k))
+                go (compare_stopped i j k) = becomes_answer (says_stopped (halts_compared i refl (place_of_v ∙ sym j) refl refl refl) (sym z.reached.counted ∙ sym k))
 
             -- what is taken makes room at the end of the work array
             low_above : c + low_of m.list s.top ≤ f.end + suc n + low_of m.list (s.top - 1)
             low_above = omega (arith, (pair_end here g u t).0, taken_room)
 
             pub waiting_becomes : d.number ≡ 0
-                → Comes_to (going 1 (past_of s n (s.cut + 1) (s.top - 1) (s.top - 1) (s.size - (1 + k)) v.scope d.next (s.comparisons + 1)) true c) (finish (rest_of s.own s.place R W Q B) p)
+                → Comes_to (State (past_of s n (s.cut + 1) (s.top - 1) (s.top - 1) (s.size - (1 + k)) v.scope d.next (s.comparisons + 1)) (Some c)) (finish (rest_of s.own s.place R W Q B) p)
             unfolding and_then domain lift_waiting terms_of waiting_size waiting_scope
             waiting_becomes h = becomes_at run_is (go compared)
               where
                 go : {r : Run} → CompareSays x.file s.next d left right last_waiting.last.place p r
-                    → Comes_to (going 1 (past_of s n (s.cut + 1) (s.top - 1) (s.top - 1) (s.size - (1 + k)) v.scope d.next (s.comparisons + 1)) true c) (and_then r (After R))
+                    → Comes_to (State (past_of s n (s.cut + 1) (s.top - 1) (s.top - 1) (s.size - (1 + k)) v.scope d.next (s.comparisons + 1)) (Some c)) (and_then r (After R))
                 go (compare_stopped i j k) = absurd ((ground_number i).1 h)
                 go (compare_passed {q = d} gs i j l e c) =
                     let w = last_waiting in
-                    becomes_state {W = lift_waiting w.others} {Q = []} {p = d} refl
+                    becomes_state {W = lift_waiting w.others} {Q = []} {p = d}
                     (pair_entered here g u t {W' = w.others} {Q' = []} (queue_to (ap (λ i. i - 1) (sym same_tops)) w.rest) (no_queue refl refl) (omega (arith, same_tops)) (omega arith) (λ i. (refl, refl, low_above))
                     (omega (arith, z.held.size_is, sizes_waiting.0, last_size here g, none_copied.0)) (ap (λ r. r.scope) slot_is ∙ w.scope_below ∙ omega arith) (omega (arith, z.held.size_bound))
                     (omega (arith, ap (λ r. r.scope) slot_is, w.scope_below, z.held.scope_is, z.held.scope_bound, sizes_waiting.1))

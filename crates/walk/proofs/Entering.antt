@@ -8,6 +8,7 @@ use mathlib.Core.List.{List}
 use native.Mathlib.Omega.{arith}
 use borrow.Author.Tests.{eq-eqb, ne_eqb}
 use lib.ListN.{length, get_or, length-set}
+use Rattle.std.specs.Prelude.{Some}
 use Rattle.calculus.specs.Terms.{Term, size}
 use Rattle.calculus.specs.Frames.{Frame}
 use Rattle.calculus.specs.Walks.{states_of}
@@ -26,9 +27,10 @@ use Rattle.waiting.specs.declared.Slot.{Slot}
 use Rattle.waiting.proofs.Texts.{positive}
 use Rattle.waiting.proofs.Queues.{seen}
 use Rattle.walk.specs.State.{Text, Arrays, state_of, rest_of, StateAt}
-use Rattle.walk.specs.Clauses.{answering, going, past_of, pairing, completed_of, settled_of, Becomes, comes_now, comes_compared, Keeps, Onward, AbstractorAt, SizesKnown, DepthsKnown, Wagons}
+use Rattle.walk.specs.Clauses.{answering, past_of, completed_of, settled_of, Becomes, comes_now, comes_compared, Keeps, Onward, AbstractorAt, SizesKnown, DepthsKnown, Wagons}
 use Rattle.walk.specs.declared.WalkState.{WalkState}
 use Rattle.walk.specs.declared.Turned.{Turned}
+use Rattle.walk.specs.declared.Turned.TheVariants.{State, Compare}
 use Rattle.walk.proofs.States.{no_confusion, entry_arrays, Room, room, origin_bound}
 use Rattle.walk.proofs.Enter.{Taken, two_abs, origins_abs, fewer_entries, past_bounds, further, domain_writable, domain_written, alone_room, alone_becomes, last_size, applied_asked, applied_past, domain_asked, pair_below, pair_end, comparing, last_copied, taken_copied, copied_size, copied_becomes, last_waiting, taken_waiting, one_waits, waiting_size_lem, waiting_stops, waiting_becomes}
 
@@ -66,7 +68,7 @@ module _ {x : Text} {m : Arrays} {f : FrameRecord} {s : WalkState} {n : ℕ} (g 
     origins_below = agree_set m.origins f.len (s.origin + 1) (omega arith);
   }
 
-  goes : {cut middle top total widest next comparisons b : ℕ} → f.end ≤ b → Onward f s (going 1 (past_of s n cut middle top total widest next comparisons) true b)
+  goes : {cut middle top total widest next comparisons b : ℕ} → f.end ≤ b → Onward f s (State (past_of s n cut middle top total widest next comparisons) (Some b))
   goes h = record { end_grows = h; len_grows = omega arith; same_bottom = refl; further = further here (has_room here) g.high g.no_app (size_here here) }
 
   -- nothing waits
@@ -74,13 +76,13 @@ module _ {x : Text} {m : Arrays} {f : FrameRecord} {s : WalkState} {n : ℕ} (g 
   alone_asked q d = domain_writable here (has_room here) g.high g.no_app (size_here here) here.held.stored.work agree_refl (omega arith) (alone_room here (has_room here) g.high g.no_app (size_here here) q) d
 
   pub alone_wagons : {w₂ : List ℕ} {b : ℕ} (a c : List ℕ) → s.bottom ≡ s.top → Puts 0xff (cond s.in_term x.term m.work) m.work w₂ (s.from + 1) (s.from + 1 + n) s.shift s.cut 0 f.end b
-      → Wagons x m (entry_arrays m w₂ f.len (f.end + 1) (s.origin + 1) b) f s a c (going 1 (past_of s n (s.cut + 1) s.middle s.top s.size s.scope s.next s.comparisons) true b)
+      → Wagons x m (entry_arrays m w₂ f.len (f.end + 1) (s.origin + 1) b) f s a c (State (past_of s n (s.cut + 1) s.middle s.top s.size s.scope s.next s.comparisons) (Some b))
   alone_wagons a c q u =
       let t = domain_written here (has_room here) g.high g.no_app (size_here here) here.held.stored.work agree_refl u in
       record {
         keeps = kept (f.end + 1) t.work t.below t.above;
         onward = goes (omega (arith, stands_start t.stands));
-        all = λ R W Q B p z. comes_now (alone_becomes z (has_room z) g.high g.no_app (size_here z) q a c (domain_written z (has_room z) g.high g.no_app (size_here z) z.held.stored.work agree_refl u)) (λ i. omega arith);
+        all = λ R W Q B p z. comes_now (alone_becomes z (has_room z) g.high g.no_app (size_here z) q a c (domain_written z (has_room z) g.high g.no_app (size_here z) z.held.stored.work agree_refl u));
       }
 
   -- something waits
@@ -135,11 +137,11 @@ module _ {x : Text} {m : Arrays} {f : FrameRecord} {s : WalkState} {n : ℕ} (g 
 
         pub copied_wagons : {w₁ w₂ : List ℕ} {a b : ℕ} → Puts 0xfe m.work m.work w₁ (v.at + 1) (v.at + 1 + k) v.shift v.cut (f.len - v.depth) f.end a
             → Puts 0xff (cond s.in_term x.term w₁) w₁ w₂ (s.from + 1) (s.from + 1 + n) s.shift s.cut 0 a b
-            → (c d : List ℕ) → Wagons x m (entry_arrays m w₂ f.len (a + 1) (s.origin + 1) b) f s c d (going 1 (past_of s n (s.cut + 1) s.middle (s.top - 1) (s.size - (1 + k)) v.scope s.next s.comparisons) true b)
+            → (c d : List ℕ) → Wagons x m (entry_arrays m w₂ f.len (a + 1) (s.origin + 1) b) f s c d (State (past_of s n (s.cut + 1) s.middle (s.top - 1) (s.size - (1 + k)) v.scope s.next s.comparisons) (Some b))
         copied_wagons u t c d = record {
           keeps = pair_kept (copied_last here) known h u t;
           onward = goes (pair_ends (copied_last here) known h u t).1;
-          all = λ R W Q B p z. comes_now (copied_becomes z (has_room z) g.high g.no_app (size_here z) y q (last_known (copied_last z) known h) u t c d) (λ i. omega arith);
+          all = λ R W Q B p z. comes_now (copied_becomes z (has_room z) g.high g.no_app (size_here z) y q (last_known (copied_last z) known h) u t c d);
         }
 
     -- the last of W
@@ -165,30 +167,30 @@ module _ {x : Text} {m : Arrays} {f : FrameRecord} {s : WalkState} {n : ℕ} (g 
 
           module _ {w₁ w₂ : List ℕ} {a c : ℕ} (u : Puts 0xfe (cond b x.term m.work) m.work w₁ (cond b v.place v.at + 1) (cond b v.place v.at + 1 + k) v.shift v.cut (f.len - v.depth) f.end a)
               (t : Puts 0xff (cond s.in_term x.term w₁) w₁ w₂ (s.from + 1) (s.from + 1 + n) s.shift s.cut 0 a c) where
-            abbrev Due : Turned
-            Due = pairing (past_of s n (s.cut + 1) (s.top - 1) (s.top - 1) (s.size - (1 + k)) v.scope s.next s.comparisons) v.place a c
+            abbrev Next : WalkState
+            Next = past_of s n (s.cut + 1) (s.top - 1) (s.top - 1) (s.size - (1 + k)) v.scope s.next s.comparisons
 
             abbrev Goes_on : Compared → Turned
-            Goes_on e = going 1 (completed_of Due.state e.next) true c
+            Goes_on e = State (completed_of Next e.next) (Some c)
 
             abbrev Stops : Compared → Turned
             Stops e = answering e.number v.place e.first e.second e.third s
 
             -- the comparison is due, and then the state that follows
-            pub waiting_wagons : (l r : List ℕ) → Wagons x m (entry_arrays m w₂ f.len (a + 1) (s.origin + 1) (f.end + (1 + k) + (1 + n))) f s l r Due
+            pub waiting_wagons : (l r : List ℕ) → Wagons x m (entry_arrays m w₂ f.len (a + 1) (s.origin + 1) (f.end + (1 + k) + (1 + n))) f s l r (Compare Next v.place a c)
             waiting_wagons l r =
                 let o = waiting_last b (λ j. omega (arith, i j)) here in
                 ends_at (omega (arith, (pair_ends o known h u t).0)) (record {
                   keeps = pair_kept o known h u t;
                   onward = record { end_grows = (pair_ends o known h u t).1; len_grows = omega arith; same_bottom = refl; further = further here (has_room here) g.high g.no_app (size_here here) };
-                  all = λ R W Q B p z. comes_compared refl refl (pair_comparing o known h u t) (λ e l r d. settled z e l r d e.number refl);
+                  all = λ R W Q B p z. comes_compared (pair_comparing o known h u t) (λ e l r d. settled z e l r d e.number refl);
                 })
               where
                 ends_at : {i e : ℕ} {l r : List ℕ} {y : Turned} → i ≡ e → Wagons x m (entry_arrays m w₂ f.len (a + 1) (s.origin + 1) i) f s l r y → Wagons x m (entry_arrays m w₂ f.len (a + 1) (s.origin + 1) e) f s l r y
                 ends_at e o = rw (← e) o
 
                 settled : {R : Frame} {W Q : List Waiting} {B : Term} {p : Progress} (z : StateAt x m f s R W Q B p) (e : Compared) (l r : List ℕ) → Compares x.file w₂ s.next f a c e l r → (j : ℕ) → e.number ≡ j
-                    → Becomes x (entry_arrays m w₂ f.len (a + 1) (s.origin + 1) c) f s l r (settled_of s Due e) (states_of (state_of s.own R W Q B)) (finish (rest_of s.own s.place R W Q B) p)
+                    → Becomes x (entry_arrays m w₂ f.len (a + 1) (s.origin + 1) c) f s l r (settled_of s Next v.place c e) (states_of (state_of s.own R W Q B)) (finish (rest_of s.own s.place R W Q B) p)
                 settled z e l r d zero j = settled_to (ap (λ k. cond k (Goes_on e) (Stops e)) (eq-eqb e.number 0 j))
                     (waiting_becomes z (has_room z) g.high g.no_app (size_here z) y ne q (λ j. omega (arith, i j)) (last_known (waiting_last b (λ j. omega (arith, i j)) z) known h) u t d j)
                 settled z e l r d (suc k) j = settled_to (ap (λ k. cond k (Goes_on e) (Stops e)) (ne_eqb e.number 0 (λ o. omega arith)))

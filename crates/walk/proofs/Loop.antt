@@ -9,6 +9,7 @@ use native.Mathlib.Numerals.{add-one}
 use borrow.Author.Tests.{eq-eqb, ne_eqb}
 use lib.Dec.{eqb}
 use lib.ListN.{length, get_or}
+use Rattle.std.specs.Prelude.{Option, Some}
 use Rattle.calculus.specs.Terms.{Term, app, abs, lift, Closed, closed_app, closed_abs}
 use Rattle.calculus.specs.Frames.{Frame}
 use Rattle.calculus.specs.Walks.{states_of}
@@ -30,10 +31,11 @@ use Rattle.waiting.specs.Waiting.{Waiting, terms_of, low_of, queue_none}
 use Rattle.waiting.proofs.Texts.{text_app, text_abs}
 use Rattle.waiting.proofs.Queues.{queue_base, queue_keep, low_same, descends, kept_through}
 use Rattle.walk.specs.State.{Text, Arrays, Reached, state_of, rest_of, agenda_of, OwnText, StateAt, Stated}
-use Rattle.walk.specs.Clauses.{answering, going, completed_of, inner_of, checked_of, frame_after, Halts, halts_waiting, halts_outgrown, halts_compared, Says, says_passed, says_stopped, says_never, says_full, Becomes, becomes_answer, becomes_state, becomes_inner, Keeps, Onward, Comes, comes_now, comes_compared, settled_of, Turns, Settles, InnerAt, Checks}
+use Rattle.walk.specs.Clauses.{answering, completed_of, inner_of, checked_of, with_entry, Halts, halts_waiting, halts_outgrown, halts_compared, Says, says_passed, says_stopped, says_never, says_full, Becomes, becomes_answer, becomes_state, becomes_inner, Keeps, Onward, Comes, comes_now, comes_compared, settled_of, Turns, Settles, InnerAt, Checks}
 use Rattle.walk.specs.declared.WalkState.{WalkState}
 use Rattle.walk.specs.declared.Walked.{Walked}
 use Rattle.walk.specs.declared.Turned.{Turned}
+use Rattle.walk.specs.declared.Turned.TheVariants.{Answer, State, Inner, Compare}
 use Rattle.walk.proofs.Rules.{run_inner_app, run_inner_abs}
 use Rattle.walk.proofs.Falls.{degree_and_size, falls_on}
 use Rattle.walk.proofs.Measures.{falling, falling_is}
@@ -253,209 +255,199 @@ module _ {x : Text} {m₀ : Arrays} {f₀ : FrameRecord} {s₀ : WalkState} {m :
     becomes : (R : Frame) (W Q : List Waiting) (B : Term) (p : Progress) → StateAt x m₀ f₀ s₀ R W Q B p → (y : Run) × (n : ℕ) × Becomes x m' f s a b r n y × (finish (agenda_of s₀.checked s₀.own s₀.place R W Q B) p ≡ y)
     becomes R W Q B p z = let n = g.all R W Q B p z in (_, _, t.all n.frame n.ww n.qq n.body n.progress n.at, n.same)
 
-    -- an answer
-    pub going_done : r.kind ≡ 0 → Checks x m₀ m' f₀ s₀ a b r.out
-    going_done e = record { keeps = kept; all = λ R W Q B p z. let n = becomes R W Q B p z in says_at n.3 (says_long (sym g.keeps.list_long ∙ sym t.keeps.list_long) (go n.2)) }
+  -- an answer
+  pub going_done : {m' : Arrays} {a b : List ℕ} {out : Walked} → Settles x m m' f s a b (Answer out) → Checks x m₀ m' f₀ s₀ a b out
+  going_done {m'} {a} {b} {out} t = record { keeps = kept t; all = λ R W Q B p z. let n = becomes t R W Q B p z in says_at n.3 (says_long (sym g.keeps.list_long ∙ sym t.keeps.list_long) (go n.2)) }
+    where
+      go : {n : ℕ} {y : Run} → Becomes x m' f s a b (Answer out) n y → Says x.file (length m'.list) a b out y
+      go (becomes_answer i) = i
+
+  -- another state
+  module _ {m' : Arrays} {a b : List ℕ} {t : WalkState} {e : Option ℕ} (h : Settles x m m' f s a b (State t e)) where
+    onward : {n : ℕ} {y v : Run} → v ≡ y → Becomes x m' f s a b (State t e) n y → Now x m' (with_entry e f) t v
+    onward q (becomes_state {R = R} {W = W} {Q = Q} {B = B} {p = p} i k l o) = record {
+      frame = R;
+      ww = W;
+      qq = Q;
+      body = B;
+      progress = p;
+      at = i;
+      same = q ∙ o ∙ ap (λ c. finish (agenda_of c t.own t.place R W Q B) p) (sym k);
+    }
+
+    pub going_on : Going x m₀ f₀ s₀ m' (with_entry e f) t
+    going_on = record {
+      start = g.start;
+      keeps = kept h;
+      end_grown = omega (arith, g.end_grown, h.onward.end_grows);
+      len_grown = omega (arith, g.len_grown, h.onward.len_grows);
+      same_bottom = h.onward.same_bottom ∙ g.same_bottom;
+      further = omega (arith, g.further, h.onward.further);
+      all = λ R W Q B p z. let n = becomes h R W Q B p z in onward n.3 n.2;
+    }
+
+    pub going_falls : falling x m' (with_entry e f) t < falling x m f s
+    going_falls = go (h.all first.frame first.ww first.qq first.body first.progress first.at) (falling_is first.at)
       where
-        go : {n : ℕ} {y : Run} → Becomes x m' f s a b r n y → Says x.file (length m'.list) a b r.out y
-        go (becomes_answer i j) = j
-        go (becomes_state i j k l o) = absurd (omega arith)
-        go (becomes_inner i j k l o u w v) = absurd (omega arith)
+        two : (c : Bool) (n : ℕ) → n + n ≤ cond c (n + n) (suc (n + n))
+        two true n = omega arith
+        two false n = omega arith
 
-    -- another state
-    module _ (e : r.kind ≡ 0 → ⊥) (h : r.kind ≡ 2 → ⊥) where
-      onward : {n : ℕ} {y v : Run} → v ≡ y → Becomes x m' f s a b r n y → Now x m' (frame_after r f) r.state v
-      onward q (becomes_answer i j) = absurd (e i)
-      onward q (becomes_inner i j k l o u w v) = absurd (h i)
-      onward q (becomes_state {R = R} {W = W} {Q = Q} {B = B} {p = p} i j k l o) = record {
-        frame = R;
-        ww = W;
-        qq = Q;
-        body = B;
-        progress = p;
-        at = j;
-        same = q ∙ o ∙ ap (λ c. finish (agenda_of c r.state.own r.state.place R W Q B) p) (sym k);
-      }
+        go : {n : ℕ} {y : Run} → Becomes x m' f s a b (State t e) n y → falling x m f s ≡ cond s.checked (n + n) (suc (n + n)) → falling x m' (with_entry e f) t < falling x m f s
+        go {n} (becomes_state {R = R} {W = W} {Q = Q} {B = B} i k l o) q =
+            let d = states_of (state_of t.own R W Q B) in
+            let u : falling x m' (with_entry e f) t ≡ suc (d + d) = falling_is i ∙ ap (λ c. cond c (d + d) (suc (d + d))) k in
+            omega (arith, u, q, two s.checked n, l)
 
-      pub going_on : Going x m₀ f₀ s₀ m' (frame_after r f) r.state
-      going_on = record {
-        start = g.start;
-        keeps = kept;
-        end_grown = omega (arith, g.end_grown, t.onward.end_grows);
-        len_grown = omega (arith, g.len_grown, t.onward.len_grows);
-        same_bottom = t.onward.same_bottom ∙ g.same_bottom;
-        further = omega (arith, g.further, t.onward.further);
-        all = λ R W Q B p z. let n = becomes R W Q B p z in onward n.3 n.2;
-      }
+  -- what stands inside is due
+  module _ {m' : Arrays} {a b : List ℕ} (t : Settles x m m' f s a b Inner) where
+    record Due (R : Frame) (W Q : List Waiting) (B : Term) (p : Progress) (v : Run) : Type 0 where
+      at : StateAt x m' f s R W Q B p
+      is_own : s.own ≡ true
+      fresh : s.checked ≡ false
+      high : 0xfe ≤ get_or x.term s.from 0
+      fits : state_fits (state_of s.own R W Q B) ≡ true
+      same : v ≡ finish (agenda_of false s.own s.place R W Q B) p
 
-      pub going_falls : falling x m' (frame_after r f) r.state < falling x m f s
-      going_falls = go (t.all first.frame first.ww first.qq first.body first.progress first.at) (falling_is first.at)
-        where
-          two : (c : Bool) (n : ℕ) → n + n ≤ cond c (n + n) (suc (n + n))
-          two true n = omega arith
-          two false n = omega arith
+    record SomeDue (v : Run) : Type 0 where
+      frame : Frame
+      ww : List Waiting
+      qq : List Waiting
+      body : Term
+      progress : Progress
+      due : Due frame ww qq body progress v
 
-          go : {n : ℕ} {y : Run} → Becomes x m' f s a b r n y → falling x m f s ≡ cond s.checked (n + n) (suc (n + n)) → falling x m' (frame_after r f) r.state < falling x m f s
-          go (becomes_answer i j) q = absurd (e i)
-          go (becomes_inner i j k l o u w v) q = absurd (h i)
-          go {n} (becomes_state {R = R} {W = W} {Q = Q} {B = B} i j k l o) q =
-              let d = states_of (state_of r.state.own R W Q B) in
-              let u : falling x m' (frame_after r f) r.state ≡ suc (d + d) = falling_is j ∙ ap (λ c. cond c (d + d) (suc (d + d))) k in
-              omega (arith, u, q, two s.checked n, l)
+    due_of : {n : ℕ} {y v : Run} → v ≡ y → Becomes x m' f s a b Inner n y → SomeDue v
+    due_of q (becomes_inner {R = R} {W = W} {Q = Q} {B = B} {p = p} j k l o u w v) = record { frame = R; ww = W; qq = Q; body = B; progress = p; due = record { at = j; is_own = k; fresh = l; high = o; fits = u; same = q ∙ v } }
 
-    -- what stands inside is due
-    module _ (e : r.kind ≡ 2) where
-      record Due (R : Frame) (W Q : List Waiting) (B : Term) (p : Progress) (v : Run) : Type 0 where
-        at : StateAt x m' f s R W Q B p
-        is_own : s.own ≡ true
-        fresh : s.checked ≡ false
-        high : 0xfe ≤ get_or x.term s.from 0
-        fits : state_fits (state_of s.own R W Q B) ≡ true
-        same : v ≡ finish (agenda_of false s.own s.place R W Q B) p
+    first_due : SomeDue (finish (agenda_of s.checked s.own s.place first.frame first.ww first.qq first.body) first.progress)
+    first_due = due_of refl (t.all first.frame first.ww first.qq first.body first.progress first.at)
 
-      record SomeDue (v : Run) : Type 0 where
-        frame : Frame
-        ww : List Waiting
-        qq : List Waiting
-        body : Term
-        progress : Progress
-        due : Due frame ww qq body progress v
+    pub inner_due : InnerAt x m' f s
+    inner_due = let d = first_due in record { stated = record { frame = d.frame; ww = d.ww; qq = d.qq; body = d.body; progress = d.progress; at = d.due.at }; is_own = d.due.is_own; high = d.due.high }
 
-      due_of : {n : ℕ} {y v : Run} → v ≡ y → Becomes x m' f s a b r n y → SomeDue v
-      due_of q (becomes_answer i j) = absurd (omega arith)
-      due_of q (becomes_state i j k l o) = absurd (omega arith)
-      due_of q (becomes_inner {R = R} {W = W} {Q = Q} {B = B} {p = p} i j k l o u w v) = record { frame = R; ww = W; qq = Q; body = B; progress = p; due = record { at = j; is_own = k; fresh = l; high = o; fits = u; same = q ∙ v } }
+    module _ {m'' : Arrays} {c d : List ℕ} {q : Walked} (k : Checks x m' m'' f (inner_of s) c d q) where
+      lower : low_of m'.list s.top ≤ low_of m'.list s₀.bottom
+      lower =
+          let z = first_due.due.at in
+          let o = z.own_text first_due.due.is_own in
+          omega (arith, descends m'.list z.held.kept s.top s.bottom (omega arith) (omega (arith, queue_base z.held.waits, o.tops)) (omega (arith, o.tops)), ap (low_of m'.list) g.same_bottom)
 
-      first_due : SomeDue (finish (agenda_of s.checked s.own s.place first.frame first.ww first.qq first.body) first.progress)
-      first_due = due_of refl (t.all first.frame first.ww first.qq first.body first.progress first.at)
+      kept_inside : Keeps m₀ m'' f₀.len f₀.end s₀.bottom
+      kept_inside = keeps_both g.len_grown g.end_grown (omega (arith, g.same_bottom, queue_base first_due.due.at.held.waits, queue_base first_due.due.at.held.copies)) lower (kept t) k.keeps
 
-      pub inner_due : InnerAt x m' f s
-      inner_due = let d = first_due in record { stated = record { frame = d.frame; ww = d.ww; qq = d.qq; body = d.body; progress = d.progress; at = d.due.at }; is_own = d.due.is_own; high = d.due.high }
+      inner_says : {v : Run} (u : SomeDue v) → (y : Run) × Says x.file (length m'.list) c d q y × (v ≡ and_then y (finish (rest_of s.own s.place u.frame u.ww u.qq u.body)))
+      unfolding agenda_of
+      inner_says u =
+          let i = inside u.due.at u.due.is_own u.due.high u.due.fits in
+          (_, k.all u.frame [] [] i.inner (turned 1 u.progress) i.at, u.due.same ∙ i.run)
 
-      module _ {m'' : Arrays} {c d : List ℕ} {q : Walked} (k : Checks x m' m'' f (inner_of s) c d q) where
-        lower : low_of m'.list s.top ≤ low_of m'.list s₀.bottom
-        lower =
-            let z = first_due.due.at in
-            let o = z.own_text first_due.due.is_own in
-            omega (arith, descends m'.list z.held.kept s.top s.bottom (omega arith) (omega (arith, queue_base z.held.waits, o.tops)) (omega (arith, o.tops)), ap (low_of m'.list) g.same_bottom)
+      dues : (R : Frame) (W Q : List Waiting) (B : Term) (p : Progress) → StateAt x m₀ f₀ s₀ R W Q B p → SomeDue (finish (agenda_of s₀.checked s₀.own s₀.place R W Q B) p)
+      dues R W Q B p z = let n = becomes t R W Q B p z in due_of n.3 n.2
 
-        kept_inside : Keeps m₀ m'' f₀.len f₀.end s₀.bottom
-        kept_inside = keeps_both g.len_grown g.end_grown (omega (arith, g.same_bottom, queue_base first_due.due.at.held.waits, queue_base first_due.due.at.held.copies)) lower kept k.keeps
+      pub inner_stops : (q.number ≡ 0 → ⊥) → Checks x m₀ m'' f₀ s₀ c d q
+      inner_stops o = record { keeps = kept_inside; all = λ R W Q B p z. let i = inner_says (dues R W Q B p z) in says_at i.2 (says_long (sym (kept t).list_long) (then_not _ o i.1)) }
 
-        inner_says : {v : Run} (u : SomeDue v) → (y : Run) × Says x.file (length m'.list) c d q y × (v ≡ and_then y (finish (rest_of s.own s.place u.frame u.ww u.qq u.body)))
-        unfolding agenda_of
-        inner_says u =
-            let i = inside u.due.at u.due.is_own u.due.high u.due.fits in
-            (_, k.all u.frame [] [] i.inner (turned 1 u.progress) i.at, u.due.same ∙ i.run)
+      module _ (o : q.number ≡ 0) where
+        resumed : {v : Run} → SomeDue v → Now x m'' f (checked_of s q.next q.comparisons) v
+        unfolding and_then agenda_of
+        resumed u = let i = inner_says u in go i.1 i.2
+          where
+            go : {y v : Run} → Says x.file (length m'.list) c d q y → v ≡ and_then y (finish (rest_of s.own s.place u.frame u.ww u.qq u.body)) → Now x m'' f (checked_of s q.next q.comparisons) v
+            go (says_passed {q = w} i j) l = record { frame = u.frame; ww = u.ww; qq = u.qq; body = u.body; progress = w; at = checked_at u.due.at u.due.is_own u.due.high u.due.fits k.keeps j; same = l }
+            go (says_stopped i j) l = absurd (stopped_number i o)
+            go (says_never i) l = absurd (omega arith)
+            go (says_full i j) l = absurd (omega arith)
 
-        dues : (R : Frame) (W Q : List Waiting) (B : Term) (p : Progress) → StateAt x m₀ f₀ s₀ R W Q B p → SomeDue (finish (agenda_of s₀.checked s₀.own s₀.place R W Q B) p)
-        dues R W Q B p z = let n = becomes R W Q B p z in due_of n.3 n.2
+        pub going_resumed : Going x m₀ f₀ s₀ m'' f (checked_of s q.next q.comparisons)
+        going_resumed = record {
+          start = g.start;
+          keeps = kept_inside;
+          end_grown = g.end_grown;
+          len_grown = g.len_grown;
+          same_bottom = g.same_bottom;
+          further = g.further;
+          all = λ R W Q B p z. resumed (dues R W Q B p z);
+        }
 
-        pub inner_stops : (q.number ≡ 0 → ⊥) → Checks x m₀ m'' f₀ s₀ c d q
-        inner_stops o = record { keeps = kept_inside; all = λ R W Q B p z. let i = inner_says (dues R W Q B p z) in says_at i.2 (says_long (sym kept.list_long) (then_not _ o i.1)) }
+        pub resumed_falls : falling x m'' f (checked_of s q.next q.comparisons) < falling x m f s
+        unfolding and_then agenda_of
+        resumed_falls = go (t.all first.frame first.ww first.qq first.body first.progress first.at) (falling_is first.at)
+          where
+            smaller : {R : Frame} {W Q : List Waiting} {B : Term} {p : Progress} {y : Run} → Says x.file (length m'.list) c d q y → StateAt x m' f s R W Q B p → s.own ≡ true → 0xfe ≤ get_or x.term s.from 0 → state_fits (state_of s.own R W Q B) ≡ true
+                → falling x m'' f (checked_of s q.next q.comparisons) ≡ states_of (state_of s.own R W Q B) + states_of (state_of s.own R W Q B)
+            smaller (says_passed i j) z l h u = falling_is (checked_at z l h u k.keeps j)
+            smaller (says_stopped i j) z l h u = absurd (stopped_number i o)
+            smaller (says_never i) z l h u = absurd (omega arith)
+            smaller (says_full i j) z l h u = absurd (omega arith)
 
-        module _ (o : q.number ≡ 0) where
-          resumed : {v : Run} → SomeDue v → Now x m'' f (checked_of s q.next q.comparisons) v
-          unfolding and_then agenda_of
-          resumed u = let i = inner_says u in go i.1 i.2
-            where
-              go : {y v : Run} → Says x.file (length m'.list) c d q y → v ≡ and_then y (finish (rest_of s.own s.place u.frame u.ww u.qq u.body)) → Now x m'' f (checked_of s q.next q.comparisons) v
-              go (says_passed {q = w} i j) l = record { frame = u.frame; ww = u.ww; qq = u.qq; body = u.body; progress = w; at = checked_at u.due.at u.due.is_own u.due.high u.due.fits k.keeps j; same = l }
-              go (says_stopped i j) l = absurd (stopped_number i o)
-              go (says_never i) l = absurd (omega arith)
-              go (says_full i j) l = absurd (omega arith)
-
-          pub going_resumed : Going x m₀ f₀ s₀ m'' f (checked_of s q.next q.comparisons)
-          going_resumed = record {
-            start = g.start;
-            keeps = kept_inside;
-            end_grown = g.end_grown;
-            len_grown = g.len_grown;
-            same_bottom = g.same_bottom;
-            further = g.further;
-            all = λ R W Q B p z. resumed (dues R W Q B p z);
-          }
-
-          pub resumed_falls : falling x m'' f (checked_of s q.next q.comparisons) < falling x m f s
-          unfolding and_then agenda_of
-          resumed_falls = go (t.all first.frame first.ww first.qq first.body first.progress first.at) (falling_is first.at)
-            where
-              smaller : {R : Frame} {W Q : List Waiting} {B : Term} {p : Progress} {y : Run} → Says x.file (length m'.list) c d q y → StateAt x m' f s R W Q B p → s.own ≡ true → 0xfe ≤ get_or x.term s.from 0 → state_fits (state_of s.own R W Q B) ≡ true
-                  → falling x m'' f (checked_of s q.next q.comparisons) ≡ states_of (state_of s.own R W Q B) + states_of (state_of s.own R W Q B)
-              smaller (says_passed i j) z l h u = falling_is (checked_at z l h u k.keeps j)
-              smaller (says_stopped i j) z l h u = absurd (stopped_number i o)
-              smaller (says_never i) z l h u = absurd (omega arith)
-              smaller (says_full i j) z l h u = absurd (omega arith)
-
-              go : {n : ℕ} {y : Run} → Becomes x m' f s a b r n y → falling x m f s ≡ cond s.checked (n + n) (suc (n + n)) → falling x m'' f (checked_of s q.next q.comparisons) < falling x m f s
-              go (becomes_answer i j) h = absurd (omega arith)
-              go (becomes_state i j k l o) h = absurd (omega arith)
-              go {n} (becomes_inner {R = R} {p = p} i z l h u v w e) g =
-                  let t = inside z l u v in
-                  let s₁ = smaller (k.all R [] [] t.inner (turned 1 p) t.at) z l u v in
-                  let s₂ : falling x m f s ≡ suc (n + n) = g ∙ ap (λ b. cond b (n + n) (suc (n + n))) h in
-                  omega (arith, s₁, s₂, w)
+            go : {n : ℕ} {y : Run} → Becomes x m' f s a b Inner n y → falling x m f s ≡ cond s.checked (n + n) (suc (n + n)) → falling x m'' f (checked_of s q.next q.comparisons) < falling x m f s
+            go {n} (becomes_inner {R = R} {p = p} z l h u v w e) g =
+                let t = inside z l u v in
+                let s₁ = smaller (k.all R [] [] t.inner (turned 1 p) t.at) z l u v in
+                let s₂ : falling x m f s ≡ suc (n + n) = g ∙ ap (λ b. cond b (n + n) (suc (n + n))) h in
+                omega (arith, s₁, s₂, w)
 
 -- ---- A turn with its comparison.
-pub settles_now : {x : Text} {m m' : Arrays} {f : FrameRecord} {s : WalkState} {a b : List ℕ} {r : Turned} → (r.kind ≡ 3 → ⊥) → Turns x m m' f s a b r → Settles x m m' f s a b r
-settles_now {x} {m} {m'} {f} {s} {a} {b} {r} h t = record { keeps = t.keeps; onward = t.onward; all = λ R W Q B p z. go (t.all R W Q B p z) }
-  where
-    go : {n : ℕ} {y : Run} → Comes x m' f s a b r n y → Becomes x m' f s a b r n y
-    go (comes_now i j) = i
-    go (comes_compared i j k l) = absurd (h i)
+module _ {x : Text} {m m' : Arrays} {f : FrameRecord} {s : WalkState} {a b : List ℕ} where
+  settles_by : {r : Turned} → ((n : ℕ) (y : Run) → Comes x m' f s a b r n y → Becomes x m' f s a b r n y) → Turns x m m' f s a b r → Settles x m m' f s a b r
+  settles_by h t = record { keeps = t.keeps; onward = t.onward; all = λ R W Q B p z. h _ _ (t.all R W Q B p z) }
 
-module _ {x : Text} {m m' : Arrays} {f : FrameRecord} {s : WalkState} {a b : List ℕ} {r : Turned} (h : r.kind ≡ 3) (t : Turns x m m' f s a b r) where
-  pub compare_due : Stated x m f s → Comparing x.file m'.work s.next f r.out.first r.end
-  compare_due g = go (t.all g.frame g.ww g.qq g.body g.progress g.at)
+  pub settles_answer : {out : Walked} → Turns x m m' f s a b (Answer out) → Settles x m m' f s a b (Answer out)
+  settles_answer {out} = settles_by go
     where
-      go : {n : ℕ} {y : Run} → Comes x m' f s a b r n y → Comparing x.file m'.work s.next f r.out.first r.end
-      go (comes_now i j) = absurd (j h)
-      go (comes_compared i j k l) = k
+      go : (n : ℕ) (y : Run) → Comes x m' f s a b (Answer out) n y → Becomes x m' f s a b (Answer out) n y
+      go n y (comes_now i) = i
 
-  settles_compared : Stated x m f s → {c : Compared} {l u : List ℕ} → Compares x.file m'.work s.next f r.out.first r.end c l u → Settles x m m' f s l u (settled_of s r c)
+  pub settles_state : {t : WalkState} {e : Option ℕ} → Turns x m m' f s a b (State t e) → Settles x m m' f s a b (State t e)
+  settles_state {t} {e} = settles_by go
+    where
+      go : (n : ℕ) (y : Run) → Comes x m' f s a b (State t e) n y → Becomes x m' f s a b (State t e) n y
+      go n y (comes_now i) = i
+
+  pub settles_inner : Turns x m m' f s a b Inner → Settles x m m' f s a b Inner
+  settles_inner = settles_by go
+    where
+      go : (n : ℕ) (y : Run) → Comes x m' f s a b Inner n y → Becomes x m' f s a b Inner n y
+      go n y (comes_now i) = i
+
+module _ {x : Text} {m m' : Arrays} {f : FrameRecord} {s : WalkState} {a b : List ℕ} {t : WalkState} {place k e : ℕ} (h : Turns x m m' f s a b (Compare t place k e)) where
+  pub compare_due : Stated x m f s → Comparing x.file m'.work s.next f k e
+  compare_due g = go (h.all g.frame g.ww g.qq g.body g.progress g.at)
+    where
+      go : {n : ℕ} {y : Run} → Comes x m' f s a b (Compare t place k e) n y → Comparing x.file m'.work s.next f k e
+      go (comes_now i) = elim i [ ]
+      go (comes_compared i j) = i
+
+  settles_compared : Stated x m f s → {c : Compared} {l u : List ℕ} → Compares x.file m'.work s.next f k e c l u → Settles x m m' f s l u (settled_of s t place e c)
   settles_compared g {c} {l} {u} q = record {
-    keeps = t.keeps;
-    onward = on (eqb c.number 0) (entered (t.all g.frame g.ww g.qq g.body g.progress g.at)) t.onward;
-    all = λ R W Q B p z. go (t.all R W Q B p z);
+    keeps = h.keeps;
+    onward = on (eqb c.number 0) h.onward;
+    all = λ R W Q B p z. go (h.all R W Q B p z);
   }
     where
-      entered : {n : ℕ} {y : Run} → Comes x m' f s a b r n y → r.entered ≡ true
-      entered (comes_now i j) = absurd (j h)
-      entered (comes_compared i j k l) = j
+      go : {n : ℕ} {y : Run} → Comes x m' f s a b (Compare t place k e) n y → Becomes x m' f s l u (settled_of s t place e c) n y
+      go (comes_now i) = elim i [ ]
+      go (comes_compared i j) = j c l u q
 
-      go : {n : ℕ} {y : Run} → Comes x m' f s a b r n y → Becomes x m' f s l u (settled_of s r c) n y
-      go (comes_now i j) = absurd (j h)
-      go (comes_compared i j k o) = o c l u q
-
-      on : (e : Bool) → r.entered ≡ true → Onward f s r → Onward f s (cond e (going 1 (completed_of r.state c.next) true r.end) (answering c.number r.out.place c.first c.second c.third s))
-      on true i o = record {
-        end_grows = omega (arith, o.end_grows, ap (λ k. (cond k (pushed f r.end) f).end) i);
-        len_grows = omega (arith, o.len_grows, ap (λ k. (cond k (pushed f r.end) f).len) i);
-        same_bottom = o.same_bottom;
-        further = o.further;
-      }
-      on false i o = record { end_grows = omega arith; len_grows = omega arith; same_bottom = refl; further = omega arith }
+      on : (b : Bool) → Onward f s (Compare t place k e) → Onward f s (cond b (State (completed_of t c.next) (Some e)) (answering c.number place c.first c.second c.third s))
+      on true o = record { end_grows = o.end_grows; len_grows = o.len_grows; same_bottom = o.same_bottom; further = o.further }
+      on false o = record { end_grows = omega arith; len_grows = omega arith; same_bottom = refl; further = omega arith }
 
 -- ---- The frame after a turn.
-module _ {x : Text} {m₀ : Arrays} {f₀ : FrameRecord} {s₀ : WalkState} {m : Arrays} {f : FrameRecord} {s : WalkState} (g : Going x m₀ f₀ s₀ m f s) {m' : Arrays} {a b : List ℕ} {r : Turned} (t : Settles x m m' f s a b r)
-    (e : r.kind ≡ 0 → ⊥) (h : r.kind ≡ 2 → ⊥) where
-  pub on_same : r.entered ≡ false → Going x m₀ f₀ s₀ m' f r.state
-  on_same i = rw (ap (λ k. cond k (pushed f r.end) f) i) at (going_on g t e h)
-
-  pub on_same_falls : r.entered ≡ false → falling x m' f r.state < falling x m f s
-  on_same_falls i = rw (ap (λ k. cond k (pushed f r.end) f) i) at (going_falls g t e h)
-
-  pub on_entered : r.entered ≡ true → Going x m₀ f₀ s₀ m' (pushed f r.end) r.state
-  on_entered i = rw (ap (λ k. cond k (pushed f r.end) f) i) at (going_on g t e h)
-
-  pub on_entered_falls : r.entered ≡ true → falling x m' (pushed f r.end) r.state < falling x m f s
-  on_entered_falls i = rw (ap (λ k. cond k (pushed f r.end) f) i) at (going_falls g t e h)
-
-  pub on_bounds : r.entered ≡ true → (f.end < 65536) × (f.len < most_abstractors)
-  on_bounds i =
-      let z = (now_stated (on_entered i)).at in
+module _ {x : Text} {m₀ : Arrays} {f₀ : FrameRecord} {s₀ : WalkState} {m : Arrays} {f : FrameRecord} {s : WalkState} (g : Going x m₀ f₀ s₀ m f s) {m' : Arrays} where
+  pub on_bounds : {t : WalkState} {e : ℕ} → Going x m₀ f₀ s₀ m' (pushed f e) t → (f.end < 65536) × (f.len < most_abstractors)
+  on_bounds n =
+      let z = (now_stated n).at in
       let y = (now_stated g).at in
       (omega (arith, y.held.stored.inside), omega (arith, z.held.stored.few))
+
+  module _ {a b : List ℕ} {t : WalkState} {o : Option ℕ} (h : Turns x m m' f s a b (State t o)) where
+    pub goes_to : {f' : FrameRecord} → with_entry o f ≡ f' → Going x m₀ f₀ s₀ m' f' t
+    goes_to i = rw i at (going_on g (settles_state h))
+
+    pub falls_to : {f' : FrameRecord} → with_entry o f ≡ f' → falling x m' f' t < falling x m f s
+    falls_to i = rw i at (going_falls g (settles_state h))
 
 -- what stands inside a wagon, as a state of its own
 pub inner_stated : {x : Text} {m : Arrays} {f : FrameRecord} {s : WalkState} → InnerAt x m f s → Stated x m f (inner_of s)
@@ -483,30 +475,29 @@ pub inside_falls : {x : Text} {m₀ : Arrays} {f₀ : FrameRecord} {s₀ : WalkS
 inside_falls {x} {s₀ = s₀} {s = s} g = falls_on x.term s₀.place s.place g.further g.start.at.held.place_bound
 
 -- ---- After a comparison.
-module _ {x : Text} {m₀ : Arrays} {f₀ : FrameRecord} {s₀ : WalkState} {m : Arrays} {f : FrameRecord} {s : WalkState} (g : Going x m₀ f₀ s₀ m f s) {m' : Arrays} {a b : List ℕ} {r : Turned} (h : r.kind ≡ 3) (t : Turns x m m' f s a b r)
-    {c : Compared} {l u : List ℕ} (q : Compares x.file m'.work s.next f r.out.first r.end c l u) where
-  made : Settles x m m' f s l u (settled_of s r c)
-  made = settles_compared h t (now_stated g) q
+module _ {x : Text} {m₀ : Arrays} {f₀ : FrameRecord} {s₀ : WalkState} {m : Arrays} {f : FrameRecord} {s : WalkState} (g : Going x m₀ f₀ s₀ m f s) {m' : Arrays} {a b : List ℕ} {t : WalkState} {place k e : ℕ} (h : Turns x m m' f s a b (Compare t place k e))
+    {c : Compared} {l u : List ℕ} (q : Compares x.file m'.work s.next f k e c l u) where
+  made : Settles x m m' f s l u (settled_of s t place e c)
+  made = settles_compared h (now_stated g) q
 
-  settles_to : {d e : Turned} → d ≡ e → Settles x m m' f s l u d → Settles x m m' f s l u e
+  settles_to : {d r : Turned} → d ≡ r → Settles x m m' f s l u d → Settles x m m' f s l u r
   settles_to i j = rw (← i) j
 
-  pub compared_stops : (c.number ≡ 0 → ⊥) → Checks x m₀ m' f₀ s₀ l u (record { number = c.number; place = r.out.place; comparisons = s.comparisons; next = s.next; first = c.first; second = c.second; third = c.third })
-  compared_stops i =
-      going_done g (settles_to (ap (λ k. cond k (going 1 (completed_of r.state c.next) true r.end) (answering c.number r.out.place c.first c.second c.third s)) (ne_eqb c.number 0 i)) made) refl
+  abbrev by_number : Bool → Turned
+  by_number b = cond b (State (completed_of t c.next) (Some e)) (answering c.number place c.first c.second c.third s)
+
+  pub compared_stops : (c.number ≡ 0 → ⊥) → Checks x m₀ m' f₀ s₀ l u (record { number = c.number; place = place; comparisons = s.comparisons; next = s.next; first = c.first; second = c.second; third = c.third })
+  compared_stops i = going_done g (settles_to (ap by_number (ne_eqb c.number 0 i)) made)
 
   module _ (i : c.number ≡ 0) where
-    on_made : Settles x m m' f s l u (going 1 (completed_of r.state c.next) true r.end)
-    on_made = settles_to (ap (λ k. cond k (going 1 (completed_of r.state c.next) true r.end) (answering c.number r.out.place c.first c.second c.third s)) (eq-eqb c.number 0 i)) made
+    on_made : Settles x m m' f s l u (State (completed_of t c.next) (Some e))
+    on_made = settles_to (ap by_number (eq-eqb c.number 0 i)) made
 
-    pub compared_goes : Going x m₀ f₀ s₀ m' (pushed f r.end) (completed_of r.state c.next)
-    compared_goes = on_entered g on_made (λ e. omega arith) (λ e. omega arith) refl
+    pub compared_goes : Going x m₀ f₀ s₀ m' (pushed f e) (completed_of t c.next)
+    compared_goes = going_on g on_made
 
-    pub compared_falls : falling x m' (pushed f r.end) (completed_of r.state c.next) < falling x m f s
-    compared_falls = on_entered_falls g on_made (λ e. omega arith) (λ e. omega arith) refl
-
-    pub compared_bounds : (f.end < 65536) × (f.len < most_abstractors)
-    compared_bounds = on_bounds g on_made (λ e. omega arith) (λ e. omega arith) refl
+    pub compared_falls : falling x m' (pushed f e) (completed_of t c.next) < falling x m f s
+    compared_falls = going_falls g on_made
 
 pub compared_few : {x : Text} {m₀ : Arrays} {f₀ : FrameRecord} {s₀ : WalkState} {m : Arrays} {f : FrameRecord} {s : WalkState} {n : ℕ} → Going x m₀ f₀ s₀ m f s → s.comparisons ≡ n + 1 → n < 65536
 compared_few g e = let r = (now_stated g).at.reached in omega (arith, r.few, reached_inside r)

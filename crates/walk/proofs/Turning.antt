@@ -7,6 +7,7 @@ use mathlib.Core.Option.{some}
 use mathlib.Core.List.{List, [], ◌∷◌}
 use native.Mathlib.Omega.{arith}
 use lib.ListN.{length, get_or}
+use Rattle.std.specs.Prelude.{None}
 use Rattle.calculus.specs.Terms.{Term, tau, var, app, abs, size, lift, lift_index, Closed, closed_var}
 use Rattle.calculus.specs.Frames.{Entry, domain, Frame, entry_at}
 use Rattle.calculus.specs.Walks.{states_of}
@@ -25,9 +26,10 @@ use Rattle.waiting.specs.Waiting.{Waiting, places, slot_of}
 use Rattle.waiting.proofs.Texts.{positive, text_tau, text_var, text_app, text_abs, text_in}
 use Rattle.waiting.proofs.Queues.{queue_empty, queue_base, queue_count, queue_last, descends}
 use Rattle.walk.specs.State.{Text, Arrays, state_of, rest_of, agenda_of, StateAt, Stated}
-use Rattle.walk.specs.Clauses.{within, answering, going, met_of, typed_of, halts_waiting, halts_outgrown, says_passed, says_stopped, says_never, says_full, Becomes, becomes_answer, becomes_state, becomes_inner, Comes, comes_now, Keeps, Onward, AbstractorAt, SizesKnown, Wagons, Turns, Known, TestAs, test_made, test_is, DueAs, due_first, not_due, TauTurn, tau_never, tau_passes, tau_waits, WaitReady, WaitTurn, wait_full, wait_goes}
+use Rattle.walk.specs.Clauses.{within, answering, met_of, typed_of, halts_waiting, halts_outgrown, says_passed, says_stopped, says_never, says_full, Becomes, becomes_answer, becomes_state, becomes_inner, Comes, comes_now, Keeps, Onward, AbstractorAt, SizesKnown, Wagons, Turns, Known, TestAs, test_made, test_is, DueAs, due_first, not_due, TauTurn, tau_never, tau_passes, tau_waits, WaitReady, WaitTurn, wait_full, wait_goes}
 use Rattle.walk.specs.declared.WalkState.{WalkState}
 use Rattle.walk.specs.declared.Turned.{Turned}
+use Rattle.walk.specs.declared.Turned.TheVariants.{State, Inner}
 use Rattle.walk.proofs.Rules.{run_outgrown, run_tau_passes, run_tau_waits, run_tau_never, run_met, run_typed, run_copied_app, run_copied_abs}
 use Rattle.walk.proofs.Measures.{fewer_met, fewer_typed}
 use Rattle.walk.proofs.States.{no_confusion, sound_closed, Meant, meant, reached_turned, body_size, body_scope_lem, origin_bound, state_fits_lem, room}
@@ -99,7 +101,7 @@ module _ {x : Text} {m : Arrays} {f : FrameRecord} {s : WalkState} {sizes scopes
       keeps = keeps_all g;
       onward = record { end_grows = omega arith; len_grows = omega arith; same_bottom = refl; further = omega arith };
       all = λ R W Q B p z. comes_now (becomes_at (agenda_false c R W Q B p ∙ run_outgrown s.own s.place R W Q B p (tested h z ∙ e))
-          (becomes_answer refl (says_stopped (halts_outgrown refl refl refl refl refl) (sym z.reached.counted)))) (λ i. omega arith);
+          (becomes_answer (says_stopped (halts_outgrown refl refl refl refl refl) (sym z.reached.counted))));
     }
       where
         agenda_false : s.checked ≡ false → (R : Frame) (W Q : List Waiting) (B : Term) (p : Progress) → finish (agenda_of s.checked s.own s.place R W Q B) p ≡ finish (agenda_of false s.own s.place R W Q B) p
@@ -122,11 +124,6 @@ fits_bounds g = let z = g.at in (omega (arith, z.held.size_bound), omega (arith,
 
 pub symbol_in : {x : Text} {m : Arrays} {f : FrameRecord} {s : WalkState} → Stated x m f s → (s.from < length (cond s.in_term x.term m.work)) × (length m.work ≡ longest_state)
 symbol_in g = (text_in g.at.stands, g.at.held.stored.work)
-
-tau_kind : {q : List ℕ} {s : WalkState} {r : Turned} → TauTurn q s r → r.kind ≡ 3 → ⊥
-tau_kind (tau_never i) e = omega arith
-tau_kind (tau_passes i j) e = omega arith
-tau_kind (tau_waits i j) e = omega arith
 
 -- ---- Terminals.
 module _ {x : Text} {m : Arrays} {f : FrameRecord} {s : WalkState} (g : Stated x m f s) (fit : Fitted x m f s) (c : get_or (cond s.in_term x.term m.work) s.from 0 < 0xfe) where
@@ -155,7 +152,7 @@ module _ {x : Text} {m : Arrays} {f : FrameRecord} {s : WalkState} (g : Stated x
     unfolding turned places
     says_answer {R} {W} {Q} {B} {p} z fits a b (tau_never i) =
         let l = queue_last z.held.copies (λ e. omega arith) in
-        becomes_at (never s.own not_own (is_tau z) l.is fits) (becomes_answer refl (says_never refl))
+        becomes_at (never s.own not_own (is_tau z) l.is fits) (becomes_answer (says_never refl))
       where
         not_own : s.own ≡ false
         not_own = go s.own refl
@@ -170,7 +167,7 @@ module _ {x : Text} {m : Arrays} {f : FrameRecord} {s : WalkState} (g : Stated x
     says_answer {R} {W} {Q} {B} {p} z fits a b (tau_passes i j) =
         let t : Q ≡ [] = queue_empty z.held.copies (omega (arith, queue_base z.held.copies)) in
         let w : W ≡ [] = queue_empty z.held.waits (omega (arith, queue_base z.held.copies, queue_base z.held.waits)) in
-        becomes_at (passes s.own (is_tau z) w t fits) (becomes_answer refl (says_passed refl (reached_turned 1 z.reached)))
+        becomes_at (passes s.own (is_tau z) w t fits) (becomes_answer (says_passed refl (reached_turned 1 z.reached)))
       where
         passes : (b : Bool) {W Q : List Waiting} {B : Term} → B ≡ tau → W ≡ [] → Q ≡ [] → state_fits (state_of b R W Q B) ≡ true → finish (agenda_of false b s.place R W Q B) p ≡ passed (turned 1 p)
         passes b c d e f = rw (c, d, e) (run_tau_passes b s.place R p (rw (c, d, e) at f))
@@ -180,14 +177,14 @@ module _ {x : Text} {m : Arrays} {f : FrameRecord} {s : WalkState} (g : Stated x
         let k : s.top ≡ s.middle = omega (arith, queue_base z.held.copies) in
         let v : (slot_of m.list (s.top - 1)).place ≡ l.last.place = ap (λ i. (slot_of m.list (i - 1)).place) k ∙ sym l.slot.is_place in
         let n : s.top - s.bottom ≡ length (places W) = omega (arith, queue_count z.held.waits) in
-        becomes_at (waits s.own (is_tau z) l.is t fits) (becomes_answer refl (says_stopped (halts_waiting refl v (n ∙ ap (λ k. length (places k)) l.is) refl refl) (sym z.reached.counted)))
+        becomes_at (waits s.own (is_tau z) l.is t fits) (becomes_answer (says_stopped (halts_waiting refl v (n ∙ ap (λ k. length (places k)) l.is) refl refl) (sym z.reached.counted)))
       where
         waits : (b : Bool) {W Q : List Waiting} {B : Term} {w : Waiting} {W' : List Waiting} → B ≡ tau → W ≡ w ∷ W' → Q ≡ [] → state_fits (state_of b R W Q B) ≡ true
             → finish (agenda_of false b s.place R W Q B) p ≡ stopped (something_waits w.place (length (places (w ∷ W')))) (turned 1 p)
         waits b {w = w} {W' = W'} c d e f = rw (c, d, e) (run_tau_waits b s.place R w W' p (rw (c, d, e) at f))
 
     pub turns_tau : {r : Turned} (a b : List ℕ) → TauTurn m.list s r → Onward f s r → Turns x m m f s a b r
-    turns_tau a b d n = record { keeps = keeps_all g; onward = n; all = λ R W Q B p z. comes_now (becomes_at (agenda_is z) (says_answer z (fit R W Q B p z) a b d)) (tau_kind d) }
+    turns_tau a b d n = record { keeps = keeps_all g; onward = n; all = λ R W Q B p z. comes_now (becomes_at (agenda_is z) (says_answer z (fit R W Q B p z) a b d)) }
 
   -- A variable.
   module _ (h : get_or (cond s.in_term x.term m.work) s.from 0 ≡ 0 → ⊥) where
@@ -217,11 +214,11 @@ module _ {x : Text} {m : Arrays} {f : FrameRecord} {s : WalkState} (g : Stated x
     unfolding lift
     var_is z e = z.seen ∙ ap (lift s.shift s.cut) (text_is z) ∙ ap var (sym e)
 
-    pub turns_met : s.own ≡ true → (a b : List ℕ) → Turns x m m f s a b (going 1 (met_of s) false 0)
+    pub turns_met : s.own ≡ true → (a b : List ℕ) → Turns x m m f s a b (State (met_of s) None)
     turns_met i a b = record {
       keeps = keeps_all g;
       onward = record { end_grows = omega arith; len_grows = omega arith; same_bottom = refl; further = omega arith };
-      all = λ R W Q B p z. comes_now (becomes_at (agenda_is z) (becomes_state refl (met_state z) refl (fewer s.own R W i (z.own_text i).no_copies (var_is z refl)) (run s.own R W p i (z.own_text i).no_copies (var_is z refl) (fit R W Q B p z)))) (λ e. omega arith);
+      all = λ R W Q B p z. comes_now (becomes_at (agenda_is z) (becomes_state (met_state z) refl (fewer s.own R W i (z.own_text i).no_copies (var_is z refl)) (run s.own R W p i (z.own_text i).no_copies (var_is z refl) (fit R W Q B p z))));
     }
       where
         fewer : (b : Bool) (R : Frame) (W : List Waiting) {Q : List Waiting} {B : Term} {k : ℕ} → b ≡ true → Q ≡ [] → B ≡ var k → suc (states_of (state_of false R W Q B)) ≤ states_of (state_of b R W Q B)
@@ -261,13 +258,13 @@ module _ {x : Text} {m : Arrays} {f : FrameRecord} {s : WalkState} (g : Stated x
         reached = reached_turned 1 z.reached;
       }
 
-      pub turns_typed : s.own ≡ false → (a b : List ℕ) → Turns x m m f s a b (going 1 (typed_of s k (get_or m.domains (f.len - k) 0) (get_or m.origins (f.len - k) 0)) false 0)
+      pub turns_typed : s.own ≡ false → (a b : List ℕ) → Turns x m m f s a b (State (typed_of s k (get_or m.domains (f.len - k) 0) (get_or m.origins (f.len - k) 0)) None)
       turns_typed i a b = record {
         keeps = keeps_all g;
         onward = record { end_grows = omega arith; len_grows = omega arith; same_bottom = refl; further = omega arith };
         all = λ R W Q B p z.
             let t = meant k z.held.notes (index_in z).0 (index_in z).1 in
-            comes_now (becomes_at (agenda_is z) (becomes_state refl (typed_state z t) refl (fewer s.own R W Q i t.means (var_is z e)) (run s.own R W Q p i t.means (var_is z e) (fit R W Q B p z)))) (λ e. omega arith);
+            comes_now (becomes_at (agenda_is z) (becomes_state (typed_state z t) refl (fewer s.own R W Q i t.means (var_is z e)) (run s.own R W Q p i t.means (var_is z e) (fit R W Q B p z))));
       }
         where
           fewer : (b : Bool) (R : Frame) (W Q : List Waiting) {B : Term} {k : ℕ} {y : Entry} → b ≡ false → entry_at R k ≡ some y → B ≡ var k → suc (states_of (state_of false R W Q (lift k 0 (domain y)))) ≤ states_of (state_of b R W Q B)
@@ -280,11 +277,11 @@ module _ {x : Text} {m : Arrays} {f : FrameRecord} {s : WalkState} (g : Stated x
 -- ---- Wagons.
 module _ {x : Text} {m : Arrays} {f : FrameRecord} {s : WalkState} (g : Stated x m f s) (fit : Fitted x m f s) (c : 0xfe ≤ get_or (cond s.in_term x.term m.work) s.from 0) where
   -- what stands inside is due
-  pub turns_inner : s.own ≡ true → s.checked ≡ false → (a b : List ℕ) → Turns x m m f s a b (going 2 s false 0)
+  pub turns_inner : s.own ≡ true → s.checked ≡ false → (a b : List ℕ) → Turns x m m f s a b Inner
   turns_inner i j a b = record {
     keeps = keeps_all g;
     onward = record { end_grows = omega arith; len_grows = omega arith; same_bottom = refl; further = omega arith };
-    all = λ R W Q B p z. comes_now (becomes_inner refl z i j (omega (arith, c, ap (λ k. get_or (cond k x.term m.work) s.from 0) (z.own_text i).in_term)) (fit R W Q B p z) (omega arith) (ap (λ b. finish (agenda_of b s.own s.place R W Q B) p) j)) (λ e. omega arith);
+    all = λ R W Q B p z. comes_now (becomes_inner z i j (omega (arith, c, ap (λ k. get_or (cond k x.term m.work) s.from 0) (z.own_text i).in_term)) (fit R W Q B p z) (omega arith) (ap (λ b. finish (agenda_of b s.own s.place R W Q B) p) j));
   }
 
   -- the run of a state is that of what is left of it
@@ -333,7 +330,7 @@ module _ {x : Text} {m : Arrays} {f : FrameRecord} {s : WalkState} (g : Stated x
     waited a b (wait_full i e l) = record {
       keeps = all_same i e (keeps_all g);
       onward = record { end_grows = omega arith; len_grows = omega arith; same_bottom = refl; further = omega arith };
-      all = λ R W Q B p z. comes_now (becomes_answer refl (says_full refl (omega (arith, ap length e, full_short z h (room z (fit R W Q B p z)) l)))) (λ i. omega arith);
+      all = λ R W Q B p z. comes_now (becomes_answer (says_full refl (omega (arith, ap length e, full_short z h (room z (fit R W Q B p z)) l))));
     }
       where
         all_same : {w q : List ℕ} → w ≡ m.work → q ≡ m.list → Keeps m m f.len f.end s.bottom → Keeps m (aside_arrays m w q) f.len f.end s.bottom
@@ -355,7 +352,7 @@ module _ {x : Text} {m : Arrays} {f : FrameRecord} {s : WalkState} (g : Stated x
             origins_below = agree_refl;
           };
       onward = record { end_grows = omega arith; len_grows = omega arith; same_bottom = refl; further = place_later s.own refl };
-      all = λ R W Q B p z. comes_now (app_becomes z h (room z (fit R W Q B p z)) (applied_size z) (applied_scope z) o d l a b) (λ i. omega arith);
+      all = λ R W Q B p z. comes_now (app_becomes z h (room z (fit R W Q B p z)) (applied_size z) (applied_scope z) o d l a b);
     }
       where
         place_later : (b : Bool) → s.own ≡ b → s.place ≤ cond b (s.from + 1 + n) s.place

@@ -7,6 +7,7 @@ use mathlib.Core.List.{List, [], ◌∷◌}
 use native.Mathlib.Omega.{arith}
 use native.Mathlib.Numerals.{add-one}
 use lib.ListN.{length, get_or}
+use Rattle.std.specs.Prelude.{None}
 use Rattle.calculus.specs.Terms.{Term, app, size, lift, Closed, closed_app}
 use Rattle.calculus.specs.Frames.{Frame}
 use Rattle.calculus.specs.Walks.{states_of}
@@ -30,8 +31,9 @@ use Rattle.waiting.proofs.Bytes.{stands_same}
 use Rattle.waiting.proofs.Texts.{positive, Two, text_app}
 use Rattle.waiting.proofs.Queues.{queue_length, queue_keep, queue_agree, queue_base, seen, waits_at, low_same, kept_through}
 use Rattle.walk.specs.State.{Text, Arrays, state_of, rest_of, agenda_of, OwnText, StateAt}
-use Rattle.walk.specs.Clauses.{going, past_of, longest_list, slot_for, WaitReady, PutAside, aside_copied, aside_own, Becomes, becomes_state}
+use Rattle.walk.specs.Clauses.{past_of, longest_list, slot_for, WaitReady, PutAside, aside_copied, aside_own, Becomes, becomes_state}
 use Rattle.walk.specs.declared.WalkState.{WalkState}
+use Rattle.walk.specs.declared.Turned.TheVariants.{State}
 use Rattle.walk.proofs.Rules.{rest_app_own, rest_app_copied}
 use Rattle.walk.proofs.Measures.{fewer_app}
 use Rattle.walk.proofs.States.{no_confusion, notes_keep, Room, body_size, body_scope_lem, own_low, origin_bound}
@@ -355,8 +357,8 @@ module _ {x : Text} {m : Arrays} {f : FrameRecord} {s : WalkState} {R : Frame} {
         copied_run : {B : Term} → B ≡ app applied rest → finish (rest_of false s.place R W Q B) p ≡ finish (agenda_of false false s.place R W (record { place = s.origin; term = applied } ∷ Q) rest) p
         copied_run a = rw a (rest_app_copied s.place s.origin R W Q applied rest p)
 
-    pub app_becomes : (a b : List ℕ) → Becomes x (aside_arrays m w q) f s a b (going 1 next_app false 0) (states_of (state_of s.own R W Q B)) (finish (rest_of s.own s.place R W Q B) p)
-    app_becomes a b = becomes_state refl (state_now s.own refl) refl (fewer_is s.own R W (now_w s.own) Q (now_q s.own) B applied rest is_app) (run_now s.own refl)
+    pub app_becomes : (a b : List ℕ) → Becomes x (aside_arrays m w q) f s a b (State next_app None) (states_of (state_of s.own R W Q B)) (finish (rest_of s.own s.place R W Q B) p)
+    app_becomes a b = becomes_state (state_now s.own refl) refl (fewer_is s.own R W (now_w s.own) Q (now_q s.own) B applied rest is_app) (run_now s.own refl)
 
   -- the list has room for all that can wait
   pub full_short : (o : Room f s B) → length m.list < 6 * s.top + 6 → length m.list < longest_list

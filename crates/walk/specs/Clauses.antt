@@ -1,6 +1,6 @@
 -- The contracts of the walk's functions.
 -- Assumes nothing.
-use Rattle.std.specs.Prelude.{ℕ, suc, ◌+◌, ◌-◌, ◌*◌, ◌≤◌, ◌<◌, max, ◌≡◌, Bool, true, false, cond, List, map, leb, eqb, length, get_or}
+use Rattle.std.specs.Prelude.{ℕ, suc, ◌+◌, ◌-◌, ◌*◌, ◌≤◌, ◌<◌, max, ◌≡◌, Bool, true, false, cond, List, map, leb, eqb, length, get_or, Option, Some, None}
 use Rattle.calculus.specs.Terms.{Term, size, Closed}
 use Rattle.calculus.specs.Frames.{Frame}
 use Rattle.calculus.specs.Walks.{states_of}
@@ -23,6 +23,9 @@ use Rattle.walk.specs.State.{Text, Arrays, Reached, state_of, rest_of, agenda_of
 use Rattle.walk.specs.declared.Walked.{Walked}
 use Rattle.walk.specs.declared.WalkState.{WalkState}
 use Rattle.walk.specs.declared.Turned.{Turned}
+use Rattle.walk.specs.declared.Turned.TheVariants.{Answer, State, Inner, Compare}
+use Rattle.walk.specs.declared.Rule.{Rule}
+use Rattle.walk.specs.declared.Rule.TheVariants.{InsideFirst, One, Three, Four, Five, Six, Seven, Eight, Nine, Ten, Eleven, Twelve}
 
 -- Within the limits, as a test.
 abbrev pub within : ℕ → ℕ → Bool
@@ -35,37 +38,19 @@ list_full = 254
 abbrev pub longest_list : ℕ
 longest_list = 36864
 
--- WHAT A FUNCTION RETURNS, in numbers
+-- WHAT A FUNCTION RETURNS
+-- the answer of a walk that ends in the state s
 abbrev pub answering : (number place first second third : ℕ) → WalkState → Turned
-answering number place first second third s = record {
-  kind = 0;
-  out = record { number = number; place = place; comparisons = s.comparisons; next = s.next; first = first; second = second; third = third };
-  state = s;
-  entered = false;
-  end = 0;
-}
-
-abbrev pub going : ℕ → WalkState → Bool → ℕ → Turned
-going kind s entered end = record {
-  kind = kind;
-  out = record { number = accepted; place = 0; comparisons = s.comparisons; next = s.next; first = 0; second = 0; third = 0 };
-  state = s;
-  entered = entered;
-  end = end;
-}
+answering number place first second third s = Answer (record { number = number; place = place; comparisons = s.comparisons; next = s.next; first = first; second = second; third = third })
 
 -- The state past the first wagon, whose term has n bytes.
 abbrev pub past_of : WalkState → (n cut middle top size scope next comparisons : ℕ) → WalkState
-past_of s n cut middle top size scope next comparisons = record {
-  own = s.own;
+past_of s n cut middle top size scope next comparisons = record s {
   checked = false;
-  in_term = s.in_term;
   place = cond s.own (s.from + 1 + n) s.place;
   from = s.from + 1 + n;
   origin = s.origin + 1 + n;
-  shift = s.shift;
   cut = cut;
-  bottom = s.bottom;
   middle = middle;
   top = top;
   size = size;
@@ -76,43 +61,11 @@ past_of s n cut middle top size scope next comparisons = record {
 
 -- A variable met: (vii).
 abbrev pub met_of : WalkState → WalkState
-met_of s = record {
-  own = false;
-  checked = false;
-  in_term = s.in_term;
-  place = s.place;
-  from = s.from;
-  origin = s.origin;
-  shift = s.shift;
-  cut = s.cut;
-  bottom = s.bottom;
-  middle = s.middle;
-  top = s.top;
-  size = s.size;
-  scope = s.scope;
-  next = s.next;
-  comparisons = s.comparisons;
-}
+met_of s = record s { own = false; checked = false }
 
 -- A variable of index k typed: (viii). U starts at `from` and is a copy of the text at `origin`.
 abbrev pub typed_of : WalkState → (k from origin : ℕ) → WalkState
-typed_of s k from origin = record {
-  own = false;
-  checked = false;
-  in_term = false;
-  place = s.place;
-  from = from;
-  origin = origin;
-  shift = k;
-  cut = 0;
-  bottom = s.bottom;
-  middle = s.middle;
-  top = s.top;
-  size = s.size;
-  scope = s.scope;
-  next = s.next;
-  comparisons = s.comparisons;
-}
+typed_of s k from origin = record s { own = false; checked = false; in_term = false; from = from; origin = origin; shift = k; cut = 0 }
 
 -- The term's own text at a place, with nothing waiting above what is suspended.
 abbrev pub start_of : (place top next comparisons : ℕ) → WalkState
@@ -140,23 +93,7 @@ inner_of s = start_of (s.place + 1) s.top s.next s.comparisons
 
 -- The same state once that has been checked.
 abbrev pub checked_of : WalkState → (next comparisons : ℕ) → WalkState
-checked_of s next comparisons = record {
-  own = s.own;
-  checked = true;
-  in_term = s.in_term;
-  place = s.place;
-  from = s.from;
-  origin = s.origin;
-  shift = s.shift;
-  cut = s.cut;
-  bottom = s.bottom;
-  middle = s.middle;
-  top = s.top;
-  size = s.size;
-  scope = s.scope;
-  next = next;
-  comparisons = comparisons;
-}
+checked_of s next comparisons = record s { checked = true; next = next; comparisons = comparisons }
 
 -- ANSWERS
 -- The ground of a stop in numbers; a and b are the arrays of the two compared bodies after it.
@@ -173,57 +110,45 @@ pub data Says (file : List ℕ) (long : ℕ) (a b : List ℕ) (r : Walked) : Run
   says_full : {x : Run} → r.number ≡ list_full → long < longest_list → Says file long a b r x
 
 -- TURNS
--- The frame after a turn.
-abbrev pub frame_after : Turned → FrameRecord → FrameRecord
-frame_after r f = cond r.entered (pushed f r.end) f
+-- The frame, once it has one more entry, whose bytes end there, or none.
+abbrev pub with_entry : Option ℕ → FrameRecord → FrameRecord
+with_entry None f = f
+with_entry (Some e) f = pushed f e
 
--- A comparison is due: K ends at a, and the entry's bytes at b. Then the state s' follows, with the groups that are left.
-abbrev pub pairing : WalkState → (place a b : ℕ) → Turned
-pairing s place a b = record {
-  kind = 3;
-  out = record { number = accepted; place = place; comparisons = s.comparisons; next = s.next; first = a; second = 0; third = 0 };
-  state = s;
-  entered = true;
-  end = b;
-}
+-- The frame and the state after a turn of the state s.
+abbrev pub frame_after : Turned → FrameRecord → FrameRecord
+frame_after (Answer out) f = f
+frame_after (State t e) f = with_entry e f
+frame_after Inner f = f
+frame_after (Compare t place k e) f = pushed f e
+
+abbrev pub state_after : Turned → WalkState → WalkState
+state_after (Answer out) s = s
+state_after (State t e) s = t
+state_after Inner s = s
+state_after (Compare t place k e) s = t
 
 -- The state once its comparison is completed, and the groups after it stand at `next`.
 abbrev pub completed_of : WalkState → ℕ → WalkState
-completed_of s next = record {
-  own = s.own;
-  checked = false;
-  in_term = s.in_term;
-  place = s.place;
-  from = s.from;
-  origin = s.origin;
-  shift = s.shift;
-  cut = s.cut;
-  bottom = s.bottom;
-  middle = s.middle;
-  top = s.top;
-  size = s.size;
-  scope = s.scope;
-  next = next;
-  comparisons = s.comparisons + 1;
-}
+completed_of s next = record s { checked = false; next = next; comparisons = s.comparisons + 1 }
 
--- What the turn of the state s comes to by its comparison.
-abbrev pub settled_of : WalkState → Turned → Compared → Turned
-settled_of s r c = cond (eqb c.number accepted) (going 1 (completed_of r.state c.next) true r.end) (answering c.number r.out.place c.first c.second c.third s)
+-- What the turn of the state s comes to by its comparison, placed at `place`: the state t with an entry whose bytes end at e, or an answer.
+abbrev pub settled_of : (s t : WalkState) (place e : ℕ) → Compared → Turned
+settled_of s t place e c = cond (eqb c.number accepted) (State (completed_of t c.next) (Some e)) (answering c.number place c.first c.second c.third s)
 
 -- A turn ends the run x, or goes on from a state whose run it is and which leads to fewer states than n, or asks for what stands inside.
-pub data Becomes (x : Text) (m : Arrays) (f : FrameRecord) (s : WalkState) (a b : List ℕ) (r : Turned) (n : ℕ) : Run → Type 0 where
-  becomes_answer : {z : Run} → r.kind ≡ 0 → Says x.file (length m.list) a b r.out z → Becomes x m f s a b r n z
-  becomes_state : {z : Run} {R : Frame} {W Q : List Waiting} {B : Term} {p : Progress} → r.kind ≡ 1 → StateAt x m (frame_after r f) r.state R W Q B p → r.state.checked ≡ false
-      → suc (states_of (state_of r.state.own R W Q B)) ≤ n → z ≡ finish (agenda_of false r.state.own r.state.place R W Q B) p → Becomes x m f s a b r n z
-  becomes_inner : {z : Run} {R : Frame} {W Q : List Waiting} {B : Term} {p : Progress} → r.kind ≡ 2 → StateAt x m f s R W Q B p → s.own ≡ true → s.checked ≡ false → 0xfe ≤ get_or x.term s.from 0
-      → state_fits (state_of s.own R W Q B) ≡ true → states_of (state_of s.own R W Q B) ≤ n → z ≡ finish (agenda_of false s.own s.place R W Q B) p → Becomes x m f s a b r n z
+pub data Becomes (x : Text) (m : Arrays) (f : FrameRecord) (s : WalkState) (a b : List ℕ) : Turned → ℕ → Run → Type 0 where
+  becomes_answer : {r : Walked} {n : ℕ} {z : Run} → Says x.file (length m.list) a b r z → Becomes x m f s a b (Answer r) n z
+  becomes_state : {t : WalkState} {e : Option ℕ} {n : ℕ} {z : Run} {R : Frame} {W Q : List Waiting} {B : Term} {p : Progress} → StateAt x m (with_entry e f) t R W Q B p → t.checked ≡ false
+      → suc (states_of (state_of t.own R W Q B)) ≤ n → z ≡ finish (agenda_of false t.own t.place R W Q B) p → Becomes x m f s a b (State t e) n z
+  becomes_inner : {n : ℕ} {z : Run} {R : Frame} {W Q : List Waiting} {B : Term} {p : Progress} → StateAt x m f s R W Q B p → s.own ≡ true → s.checked ≡ false → 0xfe ≤ get_or x.term s.from 0
+      → state_fits (state_of s.own R W Q B) ≡ true → states_of (state_of s.own R W Q B) ≤ n → z ≡ finish (agenda_of false s.own s.place R W Q B) p → Becomes x m f s a b Inner n z
 
--- The same, at once or by a comparison.
-pub data Comes (x : Text) (m : Arrays) (f : FrameRecord) (s : WalkState) (a b : List ℕ) (r : Turned) (n : ℕ) (z : Run) : Type 0 where
-  comes_now : Becomes x m f s a b r n z → (r.kind ≡ 3 → ⊥) → Comes x m f s a b r n z
-  comes_compared : r.kind ≡ 3 → r.entered ≡ true → Comparing x.file m.work s.next f r.out.first r.end
-      → ((c : Compared) (l u : List ℕ) → Compares x.file m.work s.next f r.out.first r.end c l u → Becomes x m f s l u (settled_of s r c) n z) → Comes x m f s a b r n z
+-- The same, at once or by a comparison: K ends at k, and the entry's bytes at e.
+pub data Comes (x : Text) (m : Arrays) (f : FrameRecord) (s : WalkState) (a b : List ℕ) : Turned → ℕ → Run → Type 0 where
+  comes_now : {r : Turned} {n : ℕ} {z : Run} → Becomes x m f s a b r n z → Comes x m f s a b r n z
+  comes_compared : {t : WalkState} {place k e n : ℕ} {z : Run} → Comparing x.file m.work s.next f k e
+      → ((c : Compared) (l u : List ℕ) → Compares x.file m.work s.next f k e c l u → Becomes x m f s l u (settled_of s t place e c) n z) → Comes x m f s a b (Compare t place k e) n z
 
 -- What is as it was: a frame of len entries whose bytes end at `end`, what is below the bottom of the list, and its bytes at the end of the
 -- work array where no frame was written.
@@ -243,8 +168,8 @@ pub record Keeps (m m' : Arrays) (len end bottom : ℕ) : Type 0 where
 pub record Onward (f : FrameRecord) (s : WalkState) (r : Turned) : Type 0 where
   pub end_grows : f.end ≤ (frame_after r f).end
   pub len_grows : f.len ≤ (frame_after r f).len
-  pub same_bottom : r.state.bottom ≡ s.bottom
-  pub further : s.place ≤ r.state.place
+  pub same_bottom : (state_after r s).bottom ≡ s.bottom
+  pub further : s.place ≤ (state_after r s).place
 
 -- A state at an applicator or an abstractor that is within the limits, and whose inside has been checked if it is to be.
 pub record WagonAt (x : Text) (m : Arrays) (f : FrameRecord) (s : WalkState) : Type 0 where
@@ -297,20 +222,20 @@ pub data DueAs (s : WalkState) : Bool → Type 0 where
   due_first : s.own ≡ true → s.checked ≡ false → DueAs s true
   not_due : (s.own ≡ true → s.checked ≡ true) → DueAs s false
 
--- The rule for a state whose B begins with the byte b, by its number.
-pub data RuleAt (s : WalkState) (b : ℕ) : ℕ → Type 0 where
-  inside_first : s.own ≡ true → s.checked ≡ false → 0xfe ≤ b → RuleAt s b 0
-  rule_i : s.own ≡ true → b ≡ 0 → RuleAt s b 1
-  rule_iii : s.own ≡ true → s.checked ≡ true → b ≡ 0xfe → RuleAt s b 3
-  rule_iv : s.own ≡ true → s.checked ≡ true → 0xfe < b → s.bottom ≡ s.top → RuleAt s b 4
-  rule_v : s.own ≡ true → s.checked ≡ true → 0xfe < b → (s.bottom ≡ s.top → ⊥) → RuleAt s b 5
-  rule_vi : s.own ≡ false → b ≡ 0 → RuleAt s b 6
-  rule_vii : s.own ≡ true → 0 < b → b < 0xfe → RuleAt s b 7
-  rule_viii : s.own ≡ false → 0 < b → b < 0xfe → RuleAt s b 8
-  rule_ix : s.own ≡ false → b ≡ 0xfe → RuleAt s b 9
-  rule_x : s.own ≡ false → 0xfe < b → s.bottom ≡ s.top → RuleAt s b 10
-  rule_xi : s.own ≡ false → 0xfe < b → (s.bottom ≡ s.top → ⊥) → s.middle ≡ s.top → RuleAt s b 11
-  rule_xii : s.own ≡ false → 0xfe < b → (s.middle ≡ s.top → ⊥) → RuleAt s b 12
+-- The rule for a state whose B begins with the byte b.
+pub data RuleAt (s : WalkState) (b : ℕ) : Rule → Type 0 where
+  inside_first : s.own ≡ true → s.checked ≡ false → 0xfe ≤ b → RuleAt s b InsideFirst
+  rule_i : s.own ≡ true → b ≡ 0 → RuleAt s b One
+  rule_iii : s.own ≡ true → s.checked ≡ true → b ≡ 0xfe → RuleAt s b Three
+  rule_iv : s.own ≡ true → s.checked ≡ true → 0xfe < b → s.bottom ≡ s.top → RuleAt s b Four
+  rule_v : s.own ≡ true → s.checked ≡ true → 0xfe < b → (s.bottom ≡ s.top → ⊥) → RuleAt s b Five
+  rule_vi : s.own ≡ false → b ≡ 0 → RuleAt s b Six
+  rule_vii : s.own ≡ true → 0 < b → b < 0xfe → RuleAt s b Seven
+  rule_viii : s.own ≡ false → 0 < b → b < 0xfe → RuleAt s b Eight
+  rule_ix : s.own ≡ false → b ≡ 0xfe → RuleAt s b Nine
+  rule_x : s.own ≡ false → 0xfe < b → s.bottom ≡ s.top → RuleAt s b Ten
+  rule_xi : s.own ≡ false → 0xfe < b → (s.bottom ≡ s.top → ⊥) → s.middle ≡ s.top → RuleAt s b Eleven
+  rule_xii : s.own ≡ false → 0xfe < b → (s.middle ≡ s.top → ⊥) → RuleAt s b Twelve
 
 -- (i) and (vi).
 pub data TauTurn (q : List ℕ) (s : WalkState) : Turned → Type 0 where
@@ -344,7 +269,7 @@ pub data PutAside (t w w' q : List ℕ) (s : WalkState) (n at : ℕ) : Type 0 wh
 pub data WaitTurn (t w w' q q' : List ℕ) (len : ℕ) (s : WalkState) (n y : ℕ) : Turned → Type 0 where
   wait_full : w' ≡ w → q' ≡ q → length q < 6 * s.top + 6 → WaitTurn t w w' q q' len s n y (answering list_full 0 0 0 0 s)
   wait_goes : {at : ℕ} → 6 * s.top + 6 ≤ length q → PutAside t w w' q s n at → Noted q q' s.top (slot_for len at s)
-      → WaitTurn t w w' q q' len s n y (going 1 (past_of s n s.cut (cond s.own (s.top + 1) s.middle) (s.top + 1) (s.size + (1 + n)) (max s.scope y) s.next s.comparisons) false 0)
+      → WaitTurn t w w' q q' len s n y (State (past_of s n s.cut (cond s.own (s.top + 1) s.middle) (s.top + 1) (s.size + (1 + n)) (max s.scope y) s.next s.comparisons) None)
 
 -- THE CHECK OF A TERM, from a state of its own text on
 pub record Checks (x : Text) (m m' : Arrays) (f : FrameRecord) (s : WalkState) (a b : List ℕ) (r : Walked) : Type 0 where

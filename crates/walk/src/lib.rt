@@ -6,21 +6,20 @@
 ghost use Rattle.std.specs.Prelude.{◌≡◌, true, false, cond, List, ℕ, ◌+◌, ◌-◌, ◌*◌, ◌≤◌, ◌<◌, max, length, get_or, set};
 ghost use Rattle.calculus.specs.Terms.{lift_index};
 ghost use Rattle.code.specs.Limits.{longest_term, longest_state, most_abstractors};
-ghost use Rattle.frames.specs.Stored.{record_of};
+ghost use Rattle.frames.specs.Stored.{record_of, pushed};
 ghost use Rattle.compare.specs.Sides.{Buffers};
 ghost use Rattle.waiting.specs.Writing.{PutAsked, Puts};
 ghost use Rattle.walk.specs.State.{text_of, arrays_of, Stated};
-ghost use Rattle.walk.specs.Clauses.{within, answering, going, pairing, completed_of, past_of, met_of, typed_of, start_of, inner_of, checked_of, TestAs, DueAs, RuleAt, TauTurn, WaitReady, PutAside, WaitTurn, SizesKnown, DepthsKnown, AbstractorAt, Wagons, Known, Turns, InnerAt, Checks, Walkable, WholeAnswer, WalkAnswer};
+ghost use Rattle.walk.specs.Clauses.{within, answering, completed_of, past_of, met_of, typed_of, start_of, inner_of, checked_of, TestAs, DueAs, RuleAt, TauTurn, WaitReady, PutAside, WaitTurn, SizesKnown, DepthsKnown, AbstractorAt, Wagons, Known, Turns, InnerAt, Checks, Walkable, WholeAnswer, WalkAnswer};
 
 use code::numbers::{
     ACCEPTED, LONGEST_STATE, LONGEST_TERM, MOST_ABSTRACTORS, NEVER, OUTGROWN, STILL_WAITING,
 };
 use compare::compare;
 use frames::{FrameRecord, Starts, Work, empty_frame};
-use indices::larger;
 use letters::Letters;
 use texts::measure;
-use waiting::{Slot, copy_from, low, put, slot_at, store_slot, wide16};
+use waiting::{Slot, copy_from, low, put, slot_at, store_slot};
 
 // The answer where a lent list has no room for one more waiting applicator. No answer of a call is this one.
 pub const LIST_FULL: u32 = 254;
@@ -29,16 +28,6 @@ pub const LIST_FULL: u32 = 254;
 pub const LONGEST_LIST: usize = 36864;
 
 const USUAL_LIST: usize = 12288;
-
-// What a turn comes to: an answer, another state, that what stands inside an applicator or an abstractor must be checked first, or that
-// a comparison is due.
-const ANSWER: u32 = 0;
-
-const STATE: u32 = 1;
-
-const INNER: u32 = 2;
-
-const COMPARE: u32 = 3;
 
 // What a walk answers: 0 or the number and the place of what stops it, the comparisons completed, where the next group is, and the
 // ground. For 8 this is how many wait; for 10 and 12 it is what `compare` says; else 0 0 0.
@@ -85,20 +74,42 @@ pub struct WalkState {
     pub in_term: bool,
 }
 
-// `entered` says that the frame has one more entry, whose bytes end at `end`.
+// What a turn comes to.
 #[derive(Clone, Copy)]
-pub struct Turned {
-    pub kind: u32,
-    pub out: Walked,
-    pub state: WalkState,
-    pub entered: bool,
-    pub end: usize,
+pub enum Turned {
+    Answer(Walked),
+    // another state; the bytes of one more entry, if the frame has one, end at `entered`
+    State {
+        state: WalkState,
+        entered: Option<usize>,
+    },
+    // what stands inside the first applicator or abstractor is to be checked first
+    Inner,
+    // a comparison is due, placed at `place`: K's bytes end at `middle`, and the entry's at `end`. Then the state follows
+    Compare {
+        state: WalkState,
+        place: usize,
+        middle: usize,
+        end: usize,
+    },
 }
 
-fn wide(x: u8) -> usize
-    ensures { result ≡ x }
-{
-    x as usize
+// The rules of the walk, and that what stands inside the first wagon of the term's own text is to be checked first, as (iii), (iv)
+// and (v) ask.
+#[derive(Clone, Copy)]
+pub enum Rule {
+    InsideFirst,
+    One,
+    Three,
+    Four,
+    Five,
+    Six,
+    Seven,
+    Eight,
+    Nine,
+    Ten,
+    Eleven,
+    Twelve,
 }
 
 fn answer(
@@ -111,7 +122,7 @@ fn answer(
 ) -> Turned
     ensures { result ≡ answering number place first second third s }
 {
-    let out = Walked {
+    Turned::Answer(Walked {
         number,
         place,
         comparisons: s.comparisons,
@@ -119,57 +130,17 @@ fn answer(
         first,
         second,
         third,
-    };
-    Turned {
-        kind: ANSWER,
-        out,
-        state: s,
-        entered: false,
-        end: 0,
-    }
+    })
 }
 
-fn onward(kind: u32, s: WalkState, entered: bool, end: usize) -> Turned
-    ensures { result ≡ going kind s entered end }
+// One more entry, whose bytes end at `end`.
+fn push_entry(f: &mut FrameRecord, end: usize)
+    requires { (f.old.end < 65536) × (f.old.len < most_abstractors) }
+    ensures { f.new ≡ pushed f.old end }
 {
-    let out = Walked {
-        number: ACCEPTED,
-        place: 0,
-        comparisons: s.comparisons,
-        next: s.next,
-        first: 0,
-        second: 0,
-        third: 0,
-    };
-    Turned {
-        kind,
-        out,
-        state: s,
-        entered,
-        end,
-    }
-}
-
-// A comparison is due.
-fn pair(s: WalkState, place: usize, a: usize, b: usize) -> Turned
-    ensures { result ≡ pairing s place a b }
-{
-    let out = Walked {
-        number: ACCEPTED,
-        place,
-        comparisons: s.comparisons,
-        next: s.next,
-        first: a,
-        second: 0,
-        third: 0,
-    };
-    Turned {
-        kind: COMPARE,
-        out,
-        state: s,
-        entered: true,
-        end: b,
-    }
+    f.starts[f.len] = f.end as u16;
+    f.len += 1;
+    f.end = end;
 }
 
 // Whether a state whose B has `size` bytes and `scope` is within the limits, after a frame of len entries whose bytes end at `end`.
@@ -180,7 +151,7 @@ fn fits(s: WalkState, len: usize, end: usize, size: usize, scope: usize) -> bool
     if end + (s.size + size) > LONGEST_STATE {
         return false;
     }
-    len + larger(s.scope, scope) <= MOST_ABSTRACTORS
+    len + s.scope.max(scope) <= MOST_ABSTRACTORS
 }
 
 // The test for 11. It was made already where what stands inside the first wagon has been checked.
@@ -192,8 +163,8 @@ fn test(sizes: &[u16], scopes: &[u16], len: usize, end: usize, s: WalkState) -> 
         return true;
     }
     let o = s.origin;
-    let n = wide16(sizes[o]);
-    let y = wide16(scopes[o]);
+    let n = usize::from(sizes[o]);
+    let y = usize::from(scopes[o]);
     fits(s, len, end, n, y)
 }
 
@@ -218,58 +189,57 @@ fn symbol(t: &[u8], work: &Work, s: WalkState) -> u8
     work[from]
 }
 
-// The number of the rule for a state whose B begins with the byte b. It is 0 while what stands inside the first wagon of the term's own text
-// is to be checked: (iii), (iv) and (v) ask for that first.
-fn rule_of(s: WalkState, b: u8) -> u32
+// The rule for a state whose B begins with the byte b.
+fn rule_of(s: WalkState, b: u8) -> Rule
     ensures { RuleAt s b result }
 {
     if s.own {
         // (i)
         if b == 0 {
-            return 1;
+            return Rule::One;
         }
         if b >= 0xfe {
             if due(s) {
-                return 0;
+                return Rule::InsideFirst;
             }
             // (iii)
             if b == 0xfe {
-                return 3;
+                return Rule::Three;
             }
             // (iv)
             if s.bottom == s.top {
-                return 4;
+                return Rule::Four;
             }
             // (v)
-            return 5;
+            return Rule::Five;
         }
     }
     // (vi)
     if b == 0 {
-        return 6;
+        return Rule::Six;
     }
     // (vii)
     if s.own {
-        return 7;
+        return Rule::Seven;
     }
     // (viii)
     if b < 0xfe {
-        return 8;
+        return Rule::Eight;
     }
     // (ix)
     if b == 0xfe {
-        return 9;
+        return Rule::Nine;
     }
     // (x)
     if s.bottom == s.top {
-        return 10;
+        return Rule::Ten;
     }
     // (xi)
     if s.middle == s.top {
-        return 11;
+        return Rule::Eleven;
     }
     // (xii)
-    12
+    Rule::Twelve
 }
 
 // The state past the first wagon, whose term has n bytes.
@@ -286,21 +256,18 @@ fn past(
     ensures { result ≡ past_of s n cut middle top size scope s.next s.comparisons }
 {
     let from = s.from + 1 + n;
-    let mut place = s.place;
-    if s.own {
-        place = from;
+    WalkState {
+        checked: false,
+        place: if s.own { from } else { s.place },
+        from,
+        origin: s.origin + 1 + n,
+        cut,
+        middle,
+        top,
+        size,
+        scope,
+        ..s
     }
-    let mut z = s;
-    z.checked = false;
-    z.place = place;
-    z.from = from;
-    z.origin = s.origin + 1 + n;
-    z.cut = cut;
-    z.middle = middle;
-    z.top = top;
-    z.size = size;
-    z.scope = scope;
-    z
 }
 
 // τ: (i) and (vi).
@@ -363,23 +330,26 @@ fn wait(
     if s.own {
         middle = top + 1;
     }
-    let z = past(
+    let state = past(
         s,
         n,
         s.cut,
         middle,
         top + 1,
         s.size + (1 + n),
-        larger(s.scope, y),
+        s.scope.max(y),
     );
-    onward(STATE, z, false, 0)
+    Turned::State {
+        state,
+        entered: None,
+    }
 }
 
 // A frame is written up to e.
 fn stretch(reach: &mut usize, e: usize)
     ensures { reach.new ≡ max reach.old e }
 {
-    *reach = larger(*reach, e);
+    *reach = (*reach).max(e);
 }
 
 // U, which has n bytes and stands behind the first byte of B, is written to `to`, and noted.
@@ -435,8 +405,11 @@ fn enter_alone(
 {
     let b = enter_domain(t, depths, work, domains, origins, len, end, s, n);
     stretch(reach, b);
-    let z = past(s, n, s.cut + 1, s.middle, s.top, s.size, s.scope);
-    onward(STATE, z, true, b)
+    let state = past(s, n, s.cut + 1, s.middle, s.top, s.size, s.scope);
+    Turned::State {
+        state,
+        entered: Some(b),
+    }
 }
 
 // Whether a frame was written past `at`.
@@ -476,7 +449,7 @@ fn enter_waiting(
     let top = s.top - 1;
     let v = slot_at(list, top);
     let o = v.place + 1;
-    let k = wide16(sizes[o]);
+    let k = usize::from(sizes[o]);
     let b = end + (1 + k) + (1 + n);
     stretch(reach, b);
     let lost = is_lost(v.at, *reach);
@@ -496,18 +469,27 @@ fn enter_waiting(
         len - v.depth,
     );
     let e = enter_domain(t, depths, work, domains, origins, len, a, s, n);
-    let z = past(s, n, s.cut + 1, top, top, s.size - (1 + k), v.scope);
-    pair(z, v.place, a, e)
+    let state = past(s, n, s.cut + 1, top, top, s.size - (1 + k), v.scope);
+    Turned::Compare {
+        state,
+        place: v.place,
+        middle: a,
+        end: e,
+    }
 }
 
 // A variable of the term's own text: (vii).
 fn meet(s: WalkState) -> Turned
-    ensures { result ≡ going 1 (met_of s) false 0 }
+    ensures { result ≡ Turned.State (met_of s) None }
 {
-    let mut z = s;
-    z.own = false;
-    z.checked = false;
-    onward(STATE, z, false, 0)
+    Turned::State {
+        state: WalkState {
+            own: false,
+            checked: false,
+            ..s
+        },
+        entered: None,
+    }
 }
 
 // The index b, seen lifted by n above c.
@@ -515,7 +497,7 @@ fn seen_index(b: u8, n: usize, c: usize) -> usize
     requires { n ≤ most_abstractors }
     ensures { result ≡ lift_index n c b }
 {
-    let k = wide(b);
+    let k = usize::from(b);
     if k <= c {
         return k;
     }
@@ -525,18 +507,22 @@ fn seen_index(b: u8, n: usize, c: usize) -> usize
 // A variable of copied text, whose index is k: (viii).
 fn replace(domains: &Starts, origins: &Starts, len: usize, s: WalkState, k: usize) -> Turned
     requires { (1 ≤ k) × (k ≤ len) × (len ≤ most_abstractors) }
-    ensures { result ≡ going 1 (typed_of s k (get_or domains.now (len - k) 0) (get_or origins.now (len - k) 0)) false 0 }
+    ensures { result ≡ Turned.State (typed_of s k (get_or domains.now (len - k) 0) (get_or origins.now (len - k) 0)) None }
 {
     let i = len - k;
-    let mut z = s;
-    z.own = false;
-    z.checked = false;
-    z.in_term = false;
-    z.from = wide16(domains[i]);
-    z.origin = wide16(origins[i]);
-    z.shift = k;
-    z.cut = 0;
-    onward(STATE, z, false, 0)
+    Turned::State {
+        state: WalkState {
+            own: false,
+            checked: false,
+            in_term: false,
+            from: usize::from(domains[i]),
+            origin: usize::from(origins[i]),
+            shift: k,
+            cut: 0,
+            ..s
+        },
+        entered: None,
+    }
 }
 
 // [U], whose U has n bytes, takes the last of Y: (xii).
@@ -560,7 +546,7 @@ fn enter_copied(
     let top = s.top - 1;
     let v = slot_at(list, top);
     let o = v.place + 1;
-    let k = wide16(sizes[o]);
+    let k = usize::from(sizes[o]);
     let at = v.at + 1;
     let a = put(
         t,
@@ -578,19 +564,23 @@ fn enter_copied(
     );
     let b = enter_domain(t, depths, work, domains, origins, len, a, s, n);
     stretch(reach, b);
-    let z = past(s, n, s.cut + 1, s.middle, top, s.size - (1 + k), v.scope);
-    onward(STATE, z, true, b)
+    let state = past(s, n, s.cut + 1, s.middle, top, s.size - (1 + k), v.scope);
+    Turned::State {
+        state,
+        entered: Some(b),
+    }
 }
 
 // What stands inside the first wagon has been checked.
 fn checked(s: WalkState, next: usize, comparisons: usize) -> WalkState
     ensures { result ≡ checked_of s next comparisons }
 {
-    let mut z = s;
-    z.checked = true;
-    z.next = next;
-    z.comparisons = comparisons;
-    z
+    WalkState {
+        checked: true,
+        next,
+        comparisons,
+        ..s
+    }
 }
 
 // A comparison is completed, and the groups after it stand at `next`.
@@ -598,11 +588,12 @@ fn completed(s: WalkState, next: usize) -> WalkState
     requires { s.comparisons < 65536 }
     ensures { result ≡ completed_of s next }
 {
-    let mut z = s;
-    z.checked = false;
-    z.next = next;
-    z.comparisons = s.comparisons + 1;
-    z
+    WalkState {
+        checked: false,
+        next,
+        comparisons: s.comparisons + 1,
+        ..s
+    }
 }
 
 // One turn: the state is tested for 11, and replaced by its rule.
@@ -627,40 +618,37 @@ fn turn(
         return answer(OUTGROWN, s.place, 0, 0, 0, s);
     }
     let b = symbol(t, work, s);
-    let rule = rule_of(s, b);
-    if rule == 0 {
-        return onward(INNER, s, false, 0);
-    }
-    if rule == 1 || rule == 6 {
-        return at_tau(list, s);
-    }
     let o = s.origin + 1;
-    if rule == 3 || rule == 9 {
-        let n = wide16(sizes[o]);
-        let y = wide16(scopes[o]);
-        return wait(t, work, list, len, s, n, y);
+    match rule_of(s, b) {
+        Rule::InsideFirst => Turned::Inner,
+        Rule::One | Rule::Six => at_tau(list, s),
+        Rule::Three | Rule::Nine => {
+            let n = usize::from(sizes[o]);
+            let y = usize::from(scopes[o]);
+            wait(t, work, list, len, s, n, y)
+        }
+        Rule::Four | Rule::Ten => {
+            let n = usize::from(sizes[o]);
+            enter_alone(t, depths, work, domains, origins, reach, len, end, s, n)
+        }
+        Rule::Five | Rule::Eleven => {
+            let n = usize::from(sizes[o]);
+            enter_waiting(
+                t, sizes, depths, work, list, domains, origins, reach, len, end, s, n,
+            )
+        }
+        Rule::Seven => meet(s),
+        Rule::Eight => {
+            let k = seen_index(b, s.shift, s.cut);
+            replace(domains, origins, len, s, k)
+        }
+        Rule::Twelve => {
+            let n = usize::from(sizes[o]);
+            enter_copied(
+                t, sizes, depths, work, list, domains, origins, reach, len, end, s, n,
+            )
+        }
     }
-    if rule == 4 || rule == 10 {
-        let n = wide16(sizes[o]);
-        return enter_alone(t, depths, work, domains, origins, reach, len, end, s, n);
-    }
-    if rule == 5 || rule == 11 {
-        let n = wide16(sizes[o]);
-        return enter_waiting(
-            t, sizes, depths, work, list, domains, origins, reach, len, end, s, n,
-        );
-    }
-    if rule == 7 {
-        return meet(s);
-    }
-    if rule == 8 {
-        let k = seen_index(b, s.shift, s.cut);
-        return replace(domains, origins, len, s, k);
-    }
-    let n = wide16(sizes[o]);
-    enter_copied(
-        t, sizes, depths, work, list, domains, origins, reach, len, end, s, n,
-    )
 }
 
 // The check of what stands at a place of the term's own text, with nothing waiting: a loop of turns, and a call for what stands inside each
@@ -707,34 +695,32 @@ fn term(
         comparisons,
     };
     loop {
-        let r = turn(
+        match turn(
             t, sizes, scopes, depths, work, list, domains, origins, reach, f.len, f.end, z,
-        );
-        let kind = r.kind;
-        if kind == ANSWER {
-            return r.out;
-        }
-        if kind == INNER {
-            let q = inside(
-                file, t, sizes, scopes, depths, work, list, domains, origins, reach, left, right,
-                &f, z,
-            );
-            if q.number != ACCEPTED {
-                return q;
+        ) {
+            Turned::Answer(walked) => return walked,
+            Turned::Inner => {
+                let q = inside(
+                    file, t, sizes, scopes, depths, work, list, domains, origins, reach, left,
+                    right, &f, z,
+                );
+                if q.number != ACCEPTED {
+                    return q;
+                }
+                z = checked(z, q.next, q.comparisons);
             }
-            z = checked(z, q.next, q.comparisons);
-        } else {
-            let y = r.state;
-            let n = f.len;
-            let at = f.end;
-            if kind == COMPARE {
-                let o = r.out;
-                let q = compare(file, z.next, work, &f, o.first, r.end, left, right);
+            Turned::Compare {
+                state,
+                place,
+                middle,
+                end,
+            } => {
+                let q = compare(file, z.next, work, &f, middle, end, left, right);
                 let stops = q.number != ACCEPTED;
                 if stops {
                     return Walked {
                         number: q.number,
-                        place: o.place,
+                        place,
                         comparisons: z.comparisons,
                         next: z.next,
                         first: q.first,
@@ -742,16 +728,13 @@ fn term(
                         third: q.third,
                     };
                 }
-                z = completed(y, q.next);
-                f.starts[n] = at as u16;
-                f.len = n + 1;
-                f.end = r.end;
-            } else {
-                z = y;
-                if r.entered {
-                    f.starts[n] = at as u16;
-                    f.len = n + 1;
-                    f.end = r.end;
+                z = completed(state, q.next);
+                push_entry(&mut f, end);
+            }
+            Turned::State { state, entered } => {
+                z = state;
+                if let Some(end) = entered {
+                    push_entry(&mut f, end);
                 }
             }
         }

@@ -15,8 +15,8 @@ decreases-inside l = degree_and_size l.t.now (l.s.place + 1) + degree_and_size l
 abbrev pub decreases-term : goal.decreases-term
 decreases-term l = degree_and_size l.t.now l.place + degree_and_size l.t.now l.place
 
-abbrev pub invariant-term-loop-f : goal.invariant-term-loop-f
-invariant-term-loop-f l = Known l.t l.sizes l.scopes × Going (text_of l.file l.t) (arrays_of l.initial.work l.initial.list l.initial.domains l.initial.origins l.initial.reach) l.initial.f l.initial.z (arrays_of l.work l.list l.domains l.origins l.reach) l.f l.z × Buffers l.left l.right × DepthsKnown l.t l.depths
+abbrev pub invariant-term-loop-walked : goal.invariant-term-loop-walked
+invariant-term-loop-walked l = Known l.t l.sizes l.scopes × Going (text_of l.file l.t) (arrays_of l.initial.work l.initial.list l.initial.domains l.initial.origins l.initial.reach) l.initial.f l.initial.z (arrays_of l.work l.list l.domains l.origins l.reach) l.f l.z × Buffers l.left l.right × DepthsKnown l.t l.depths
 
-abbrev pub decreases-term-loop-f : goal.decreases-term-loop-f
-decreases-term-loop-f l = falling (text_of l.file l.t) (arrays_of l.work l.list l.domains l.origins l.reach) l.f l.z
+abbrev pub decreases-term-loop-walked : goal.decreases-term-loop-walked
+decreases-term-loop-walked l = falling (text_of l.file l.t) (arrays_of l.work l.list l.domains l.origins l.reach) l.f l.z

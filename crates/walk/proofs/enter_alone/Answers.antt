@@ -10,8 +10,8 @@ enter_domain-b-requires c = let b = abs_bounds c.requires.2.3 in (b.4, b.6, b.3,
 pub overflow_add-s : goal.overflow_add-s
 overflow_add-s c = omega (arith, abs_bounds c.requires.2.3)
 
-pub past-z-requires : goal.past-z-requires
-past-z-requires c = let b = abs_bounds c.requires.2.3 in (b.0, b.1, b.2)
+pub past-state-requires : goal.past-state-requires
+past-state-requires c = let b = abs_bounds c.requires.2.3 in (b.0, b.1, b.2)
 
 pub returns : goal.returns
-returns c = λ file list starts a b g. rw (c.onward.ensures, c.past-z.ensures, c.stretch.ensures, c.enter_domain-b.ensures.1, c.enter_domain-b.ensures.2) (alone_wagons g a b c.requires.0 c.enter_domain-b.ensures.0)
+returns c = λ file list starts a b g. rw (c.past-state.ensures, c.stretch.ensures, c.enter_domain-b.ensures.1, c.enter_domain-b.ensures.2) (alone_wagons g a b c.requires.0 c.enter_domain-b.ensures.0)

@@ -8,4 +8,4 @@ pub returns-then-end-s-gt-LONGEST_STATE : goal.returns-then-end-s-gt-LONGEST_STA
 returns-then-end-s-gt-LONGEST_STATE c = rw (lt-leb _ longest_state c.if-end-s-gt-LONGEST_STATE.true)
 
 pub returns : goal.returns
-returns c = rw (c.larger.ensures, le-leb _ longest_state c.if-end-s-gt-LONGEST_STATE.false)
+returns c = rw (c.max.ensures, le-leb _ longest_state c.if-end-s-gt-LONGEST_STATE.false)

@@ -3,4 +3,4 @@
 use Rattle.walk.proofs.replace.Goals as goal
 
 pub returns : goal.returns
-returns c = rw (c.onward.ensures, c.wide16-2.ensures.0, c.wide16.ensures.0)
+returns c = rw (c.from-2.ensures, c.from.ensures)

@@ -8,4 +8,4 @@ pub returns-then-s : goal.returns-then-s
 returns-then-s c = test_made c.if-s.true
 
 pub returns : goal.returns
-returns c = test_by c.if-s.false c.fits.ensures c.wide16-n.ensures.0 c.wide16-y.ensures.0
+returns c = test_by c.if-s.false c.fits.ensures c.from-n.ensures c.from-y.ensures

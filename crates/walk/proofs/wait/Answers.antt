@@ -18,4 +18,4 @@ store_slot-requires c = (omega (arith, c.if-list-top.false), record { place_fits
 pub returns : goal.returns
 returns c =
     let m : c.if-s.middle ≡ cond c.args.s.own (c.args.s.top + 1) c.args.s.middle = elim c.if-s.branch [ then-s w ↦ chosen _ c.args.s.middle w.if-s.true w.middle-is | else-s w ↦ other _ (c.args.s.top + 1) w.if-s.false w.middle-is ] in
-    rw (c.onward.ensures, c.past-z.ensures, c.larger.ensures, m) (wait_goes c.if-list-top.false c.put_aside-at.ensures.0 c.store_slot.ensures)
+    rw (c.past-state.ensures, c.max.ensures, m) (wait_goes c.if-list-top.false c.put_aside-at.ensures.0 c.store_slot.ensures)
