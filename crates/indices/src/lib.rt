@@ -12,20 +12,14 @@ pub struct Parts {
     pub count: usize,
 }
 
-// A scope of the stack.
-fn scope_of(d: u16) -> usize
-    ensures { result ≡ d }
-{
-    d as usize
-}
-
 pub fn larger(x: usize, y: usize) -> usize
     ensures { result ≡ max x y }
 {
-    if x < y { y } else { x }
+    x.max(y)
 }
 
 // How many abstractors are in scope at the second part of an applicator or an abstractor.
+#[tactic(auto, unfolding(crate::specs::Stack::body_scope))]
 fn body_scope(b: u8, scope: usize) -> u16
     requires { scope < 65535 }
     ensures { result ≡ body_scope b scope }
@@ -43,15 +37,14 @@ pub fn advance(stack: &mut [u16], scope: usize, count: usize, b: u8) -> Parts
     ensures { Advanced stack.old stack.new scope count result.scope result.count b }
 {
     if b < 0xfe {
-        let d = stack[count - 1];
         return Parts {
-            scope: scope_of(d),
+            scope: usize::from(stack[count - 1]),
             count: count - 1,
         };
     }
     stack[count] = body_scope(b, scope);
     Parts {
-        scope: scope,
+        scope,
         count: count + 1,
     }
 }

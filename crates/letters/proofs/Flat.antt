@@ -1,35 +1,32 @@
 -- Reading a term without abstractors: all scopes are 0, so that it is `Reading` with a stack of zeros, which no code keeps.
 -- Assumes nothing.
-use Prim.Native.Nat.{ℕ, zero, suc, ◌+◌, ◌-◌, ◌*◌, ◌≤◌, ◌<◌, max}
+use Prim.Native.Nat.{ℕ, zero, suc, ◌+◌, ◌-◌, ◌*◌, ◌≤◌, ◌<◌}
 use mathlib.Core.Path.{◌≡◌, refl}
 use mathlib.Core.Bool.{true}
 use mathlib.Core.List.{List}
 use native.Mathlib.Omega.{arith}
 use native.Mathlib.Nat.{add-zero}
 use native.Mathlib.Numerals.{add-one}
-use lib.ListN.{get_or, set, replicate, length-replicate}
+use lib.ListN.{get_or, set, drop, replicate, length-replicate}
+use lib.Seq.{get_or-take, get_or-drop}
 use borrow.Author.Tests.{lt-ltb}
 use Rattle.calculus.specs.Terms.{Term, lift_index}
-use Rattle.calculus.proofs.Lift.{lo, hi, cmp}
 use Rattle.code.specs.Limits.{longest_term}
 use Rattle.code.specs.Claims.{Stands}
 use Rattle.code.proofs.Parts.{stands_start, Head, head_tau, head_var, head_app, head_abs, head}
+use Rattle.parts.specs.Parts.{part}
 use Rattle.indices.specs.Stack.{pending, body_scope, after, Advanced}
 use Rattle.letters.specs.Letters.{letter}
 use Rattle.letters.specs.Clauses.{UpTo, Readable, ReadAs, read_all, Reads}
 use Rattle.letters.proofs.Reading.{Stored, terminal_stored, operator_stored, Reading, reading_start, reading_ready, reading_next, reading_high, reading_length, reading_end}
 
 -- ---- The largest byte.
-pub up_to_next : {s : List ℕ} {from i b x : ℕ} → UpTo s from i b → x ≡ max b (get_or s i 0) → UpTo s from (i + 1) x
-up_to_next {i = i} u v = record {
-  bound = λ q l m. elim (cmp i q) [
-    | lo g ↦ let e : q ≡ i = omega arith in rw e (omega arith)
-    | hi g ↦ omega (arith, u.bound q l g)
-  ];
+pub up_to_part : {s : List ℕ} {from e b c : ℕ} → ((i : ℕ) → get_or (part s from e) i 0 ≤ b) → b ≤ c → UpTo s from e c
+up_to_part {s} {from} {e} u m = record {
+  bound = λ q a g.
+      let there : from + (q - from) ≡ q = omega arith in
+      omega (arith, rw (get_or-take (e - from) (drop from s) (q - from) 0 (omega arith), get_or-drop from s (q - from) 0, there) at (u (q - from)));
 }
-
-pub up_to_end : {s : List ℕ} {from i e b c : ℕ} → UpTo s from i b → e ≤ i → b ≤ c → UpTo s from e c
-up_to_end u l m = record { bound = λ q a g. omega (arith, u.bound q a (omega arith)) }
 
 -- ---- A stack of zeros.
 zeros : (n i : ℕ) → ◌≡◌ {A = ℕ} (get_or (replicate n 0) i 0) 0
@@ -83,7 +80,7 @@ module _ {s out₀ out : List ℕ} {from e k d h at above i j : ℕ} {t : Term} 
     pub applicator_next : {x z : ℕ} → UpTo s from e 254 → 254 ≤ get_or s i 0 → x ≡ get_or s i 0 → z ≡ above - 1048576 + (x + 768) → out' ≡ set out j z → above' ≡ above + 1048576
         → Flat s out₀ out' from e k d h at above' (i + 1) (j + 1) t
     applicator_next {x = x} g b u w o q =
-        flat_next (r.count + 1) (omega (arith, r.high)) (operator_stored b u (letter_is (x + 768) w) o)
+        flat_next (r.count + 1) (omega (arith, r.high)) (operator_stored b u refl (letter_is (x + 768) w) o)
         (applicator_advanced (e + 2) r.count (get_or s i 0) positive (omega (arith, g.bound i (omega (arith, positive, r.reading.walk.small)) l)))
 
 -- ---- There is always room for no abstractor.

@@ -4,4 +4,3 @@ pub mod Letters
 pub mod Reading
 pub mod Flat
 pub mod Writing
-pub mod Counting

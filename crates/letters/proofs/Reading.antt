@@ -36,9 +36,9 @@ module _ {out out' : List ℕ} {j k c b d h x z : ℕ} where
   unfolding lifted_byte
   terminal_stored l e q r o = record { there = rw (lt-ltb b 254 l, o, r, q, e) }
 
-  pub operator_stored : 254 ≤ b → x ≡ b → z ≡ letter (x + 768) d h → out' ≡ set out j z → Stored out out' j k c b d h
+  pub operator_stored : {y : ℕ} → 254 ≤ b → x ≡ b → y ≡ x + 768 → z ≡ letter y d h → out' ≡ set out j z → Stored out out' j k c b d h
   unfolding lifted_byte
-  operator_stored l e r o = record { there = rw (le-ltb b 254 l, o, r, e) }
+  operator_stored l e q r o = record { there = rw (le-ltb b 254 l, o, r, q, e) }
 
 -- ---- The letters of the parts, each lifted by k; the first letter of the whole has depth d and height h.
 module _ (k d h : ℕ) where

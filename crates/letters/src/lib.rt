@@ -2,7 +2,7 @@
 // crate reads and writes a body's bytes.
 #![tactic(auto)]
 
-ghost use Rattle.std.specs.Prelude.{◌≡◌, true, ◌↔◌, ◌+◌, ◌%◌, ◌<◌, ◌≤◌, max, length};
+ghost use Rattle.std.specs.Prelude.{◌≡◌, true, ◌+◌, ◌<◌, ◌≤◌, ℕ, length, slice_index};
 ghost use Rattle.calculus.specs.Terms.{lift_index};
 ghost use Rattle.code.specs.Limits.{longest_term, most_abstractors};
 ghost use Rattle.indices.specs.Stack.{Roomy};
@@ -40,28 +40,22 @@ pub fn wide(x: u32) -> usize
 pub fn symbol_of(x: u32) -> usize
     ensures { (result ≡ symbol_of x) × (result < 1024) }
 {
-    wide(x) % 1024
+    x as usize % 1024
 }
 
 pub fn depth_of(x: u32) -> usize
     ensures { (result ≡ depth_of x) × (result < 1024) }
 {
-    wide(x) / 1024 % 1024
+    x as usize / 1024 % 1024
 }
 
 pub fn height_of(x: u32) -> usize
     ensures { (result ≡ height_of x) × (result < 4096) }
 {
-    wide(x) / 1024 / 1024
+    x as usize / 1024 / 1024
 }
 
 // ---- Bytes into letters.
-fn index_of(b: u8) -> usize
-    ensures { (result ≡ b) × (result < 256) }
-{
-    b as usize
-}
-
 // The index x with d abstractors of its term in scope, lifted by k.
 fn lifted_index(x: usize, d: usize, k: usize) -> usize
     requires { (x < 254) × (k ≤ most_abstractors) }
@@ -87,56 +81,36 @@ fn read_with(
 {
     let mut scope: usize = 0;
     let mut count: usize = 1;
-    let mut i = from;
-    let mut j = at;
-    while i < to {
+    for i in from..to {
         if scope > room {
             return false;
         }
         let b = s[i];
-        let x = index_of(b);
+        let x = usize::from(b);
         let depth = d + scope;
         let height = h + (count - 1);
-        if b < 0xfe {
-            out[j] = letter_of(lifted_index(x, scope, k), depth, height);
+        let symbol = if b < 0xfe {
+            lifted_index(x, scope, k)
         } else {
-            out[j] = letter_of(x + 768, depth, height);
-        }
+            x + 768
+        };
+        out[at + (i - from)] = letter_of(symbol, depth, height);
         let parts = advance(stack, scope, count, b);
         scope = parts.scope;
         count = parts.count;
-        i += 1;
-        j += 1;
     }
     true
 }
 
-fn larger(x: u8, y: u8) -> u8
-    ensures { result ≡ max x y }
-{
-    if x < y { y } else { x }
-}
-
-// The largest byte from `from` up to `to`. A loop with no way out compares several at once.
-fn largest_byte(s: &[u8], from: usize, to: usize) -> u8
-    requires { to ≤ length s.now }
-    ensures { UpTo s.now from to result }
+// The largest byte of s, or 0. A loop with no way out compares several at once.
+fn largest_byte(s: &[u8]) -> u8
+    ensures { (i : ℕ) → slice_index s.now i ≤ result }
 {
     let mut largest: u8 = 0;
-    let mut i = from;
-    while i < to {
-        largest = larger(largest, s[i]);
-        i += 1;
+    for b in s {
+        largest = largest.max(*b);
     }
     largest
-}
-
-// A symbol put into a letter.
-fn with_symbol(rest: usize, symbol: usize) -> u32
-    requires { rest + symbol < 4294967296 }
-    ensures { result ≡ rest + symbol }
-{
-    (rest + symbol) as u32
 }
 
 // As `read_with`, where no byte is an abstractor: all depths are the same, and the parts still to be read need no stack. `above` is the
@@ -155,27 +129,24 @@ fn read_flat(
     ensures { Reads s.now from to k d h 0 out.old out.new at true }
 {
     let mut above = d * 1024 + (h + 1) * HEIGHT;
-    let mut i = from;
-    let mut j = at;
-    while i < to {
+    for i in from..to {
         let b = s[i];
-        let x = index_of(b);
+        let x = usize::from(b);
         let here = above - HEIGHT;
+        let j = at + (i - from);
         if b < 0xfe {
-            out[j] = with_symbol(here, lifted_index(x, 0, k));
+            out[j] = (here + lifted_index(x, 0, k)) as u32;
             above = here;
         } else {
-            out[j] = with_symbol(here, x + 768);
+            out[j] = (here + x + 768) as u32;
             above += HEIGHT;
         }
-        i += 1;
-        j += 1;
     }
 }
 
-// The term that stands in s from `from` up to `to`, lifted by k, as letters from `at` on: its first at depth d and height h. Not, if
-// more than `room` of its abstractors are in scope anywhere.
-pub fn read_long(
+// As `read`, where bytes may be abstractors. Apart from it, so that what needs no stack pays for none.
+#[inline(never)]
+fn read_scoped(
     s: &[u8],
     from: usize,
     to: usize,
@@ -189,10 +160,6 @@ pub fn read_long(
     requires { Readable s.now from to k d h room out.old at }
     ensures { Reads s.now from to k d h room out.old out.new at result }
 {
-    if largest_byte(s, from, to) < 0xff {
-        read_flat(s, from, to, k, d, h, out, at);
-        return true;
-    }
     if to - from < 127 {
         let mut small: [u16; 64] = [0; 64];
         return read_with(s, from, to, k, d, h, room, out, at, &mut small[..]);
@@ -201,7 +168,8 @@ pub fn read_long(
     read_with(s, from, to, k, d, h, room, out, at, &mut stack[..])
 }
 
-// The same, where most terms are one byte. The two are apart, so that a short one pays for nothing else.
+// The term that stands in s from `from` up to `to`, lifted by k, as letters from `at` on: its first at depth d and height h. Not, if
+// more than `room` of its abstractors are in scope anywhere.
 pub fn read(
     s: &[u8],
     from: usize,
@@ -216,52 +184,35 @@ pub fn read(
     requires { Readable s.now from to k d h room out.old at }
     ensures { Reads s.now from to k d h room out.old out.new at result }
 {
-    // one byte is a terminal
+    // most terms are one byte, which is a terminal
     if to - from == 1 {
-        let x = index_of(s[from]);
+        let x = usize::from(s[from]);
         out[at] = letter_of(lifted_index(x, 0, k), d, h);
         return true;
     }
-    read_long(s, from, to, k, d, h, room, out, at)
+    if largest_byte(&s[from..to]) < 0xff {
+        read_flat(s, from, to, k, d, h, out, at);
+        return true;
+    }
+    read_scoped(s, from, to, k, d, h, room, out, at)
 }
 
 // ---- Letters into bytes.
-// The byte of a letter's symbol: applicator and abstractor end in fe and ff.
-fn byte_of(x: u32) -> u8
-    ensures { result ≡ x % 256 }
-{
-    (x % 256) as u8
-}
-
 // The term that lies in n letters at the start of s, as bytes at the start of `out`.
 pub fn write(s: &Letters, n: usize, out: &mut [u8])
     requires { BytesWritable s.now n out.old }
     ensures { Writes s.now n out.old out.new }
 {
-    let mut i: usize = 0;
-    while i < n {
-        out[i] = byte_of(s[i]);
-        i += 1;
+    for i in 0..n {
+        out[i] = (s[i] % 256) as u8;
     }
 }
 
 // ---- Letters compared.
-fn differ(x: u32, y: u32) -> u32
-    ensures { (result ≤ 1) × ((result ≡ 0) ↔ (x ≡ y)) }
-{
-    if x == y { 0 } else { 1 }
-}
-
-// Whether the first n letters are the same. All are compared: a loop with no way out compares several at once.
+// Whether the first n letters are the same.
 pub fn same(a: &Letters, b: &Letters, n: usize) -> bool
-    requires { (n ≤ longest_term) × (length a.now ≡ longest_term) × (length b.now ≡ longest_term) }
+    requires { n ≤ longest_term }
     ensures { Compared a.now b.now n result }
 {
-    let mut count: u32 = 0;
-    let mut i: usize = 0;
-    while i < n {
-        count += differ(a[i], b[i]);
-        i += 1;
-    }
-    count == 0
+    a[..n] == b[..n]
 }

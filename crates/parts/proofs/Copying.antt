@@ -2,14 +2,23 @@
 -- Assumes nothing.
 use Prim.Native.Nat.{ℕ, ◌+◌, ◌-◌, ◌≤◌, ◌<◌}
 use mathlib.Core.Path.{◌≡◌, refl, ap, sym, ◌∙◌}
-use mathlib.Core.List.{List}
+use mathlib.Core.List.{List, append_assoc}
 use native.Mathlib.Omega.{arith}
 use native.Mathlib.Numerals.{add-one}
 use lib.ListN.{length, get_or, set, length-set}
-use lib.Seq.{sets}
+use lib.Seq.{sets, sets-eq, length-sets, drop-drop}
+use borrow.Rule.Slice.PartMut.{put_mid}
 use Rattle.parts.specs.Parts.{part, Copied}
 use Rattle.parts.proofs.Cut.{length_part, part_empty, part_first, part_last, part_set_below, part_set_above}
 use Rattle.parts.proofs.Stores.{sets_last}
+
+-- The library's copy of a part.
+pub copied : {r s : List ℕ} (from to at : ℕ) → to ≤ length r → at + (to - from) ≤ length s → {v : List ℕ} → v ≡ part r from to → Copied r from to s (put_mid at (at + (to - from) - at) s v) at
+copied {r} {s} from to at l m {v} e =
+    let n : length (part r from to) ≡ to - from = length_part r from to l in
+    let q : at + (to - from) - at ≡ to - from = omega arith in
+    let b : put_mid at (at + (to - from) - at) s v ≡ sets s at (part r from to) = rw (e, q, sets-eq (part r from to) s at (omega arith), n, append_assoc, drop-drop) refl in
+    record { bytes = b; same_length = ap length b ∙ length-sets s at (part r from to) }
 
 -- The bytes of r from j up to k are still to be stored in s, from p on; then s is s₀ with v stored from `at` on.
 pub record Copying (r s : List ℕ) (j k p : ℕ) (s₀ : List ℕ) (at : ℕ) (v : List ℕ) : Type 0 where

@@ -9,11 +9,5 @@ pub fn copy_part(src: &[u8], from: usize, to: usize, dst: &mut [u8], at: usize)
     requires { (from ≤ to) × ((to ≤ length src.now) × (at + (to - from) ≤ length dst.old)) }
     ensures { Copied src.now from to dst.old dst.new at }
 {
-    let mut i = from;
-    let mut j = at;
-    while i < to {
-        dst[j] = src[i];
-        i += 1;
-        j += 1;
-    }
+    dst[at..at + (to - from)].copy_from_slice(&src[from..to]);
 }

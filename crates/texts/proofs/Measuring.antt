@@ -95,7 +95,6 @@ module _ {t : List ℕ} (g : WholeTerm t) (out : List ℕ) (n : length out ≡ l
 
   pub notable : {depths : List ℕ} → length t ≤ length depths → Notable out' depths (length t)
   notable l = record {
-    array = k.same_length ∙ n;
     short = g.short;
     small = λ i h. omega (arith, depth_there i h, depth_below 0 g.term 253 (omega (arith, g.shallow)) i);
     long = l;
@@ -244,7 +243,6 @@ module _ {sizes scopes : List ℕ} {i a c x y m : ℕ} (qa : a ≡ get_or sizes 
 -- ---- All of them, from the last to the first: those from i on are known.
 pub record MeasuredFrom (t letters sizes₀ scopes₀ sizes scopes : List ℕ) (i : ℕ) : Type 0 where
   pub whole : WholeTerm t
-  pub array : length letters ≡ longest_term
   pub lettered : Lettered t letters
   pub sizes_long : length t ≤ length sizes
   pub scopes_long : length t ≤ length scopes
@@ -254,10 +252,9 @@ pub record MeasuredFrom (t letters sizes₀ scopes₀ sizes scopes : List ℕ) (
   pub known : SizedFrom t sizes scopes i
 
 module _ {t letters sizes₀ scopes₀ : List ℕ} where
-  pub measured_none : WholeTerm t → length letters ≡ longest_term → Lettered t letters → length t ≤ length sizes₀ → length t ≤ length scopes₀ → MeasuredFrom t letters sizes₀ scopes₀ sizes₀ scopes₀ (length t)
-  measured_none g a b m n = record {
+  pub measured_none : WholeTerm t → Lettered t letters → length t ≤ length sizes₀ → length t ≤ length scopes₀ → MeasuredFrom t letters sizes₀ scopes₀ sizes₀ scopes₀ (length t)
+  measured_none g b m n = record {
     whole = g;
-    array = a;
     lettered = b;
     sizes_long = m;
     scopes_long = n;
@@ -287,7 +284,6 @@ module _ {t letters sizes₀ scopes₀ : List ℕ} where
         term = part.term;
         stands = part.stands;
         short = s.whole.short;
-        array = s.array;
         sizes_long = s.sizes_long;
         scopes_long = s.scopes_long;
       }
@@ -305,7 +301,6 @@ module _ {t letters sizes₀ scopes₀ : List ℕ} where
         pub measured_more : MeasuredFrom t letters sizes₀ scopes₀ (set sizes (i - 1) r.size) (set scopes (i - 1) r.scope) (i - 1)
         measured_more = record {
           whole = s.whole;
-          array = s.array;
           lettered = s.lettered;
           sizes_long = simp length-set s.sizes_long;
           scopes_long = simp length-set s.scopes_long;

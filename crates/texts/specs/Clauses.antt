@@ -30,7 +30,6 @@ pub record Measurable (letters sizes scopes : List ℕ) (i : ℕ) : Type 0 where
   pub term : Term
   pub stands : Stands text i end term
   pub short : length text ≤ longest_term
-  pub array : length letters ≡ longest_term
   pub sizes_long : length text ≤ length sizes
   pub scopes_long : length text ≤ length scopes
 
@@ -40,7 +39,6 @@ pub record ExtentAt (letters sizes scopes : List ℕ) (i : ℕ) (r : Extent) : T
 
 -- The depths of the first n letters are bytes, and there is room for them.
 pub record Notable (letters depths : List ℕ) (n : ℕ) : Type 0 where
-  pub array : length letters ≡ longest_term
   pub short : n ≤ longest_term
   pub small : (i : ℕ) → i < n → depth_of (get_or letters i 0) < 256
   pub long : n ≤ length depths

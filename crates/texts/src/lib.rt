@@ -7,20 +7,13 @@ ghost use Rattle.texts.specs.Texts.{Sized, Depths, WholeTerm};
 ghost use Rattle.texts.specs.Clauses.{Measurable, ExtentAt, Notable, DepthsNoted};
 
 use code::numbers::MOST_ABSTRACTORS;
-use indices::larger;
-use letters::{APPLICATOR, Letters, depth_of, read_long, symbol_of};
+use letters::{APPLICATOR, Letters, depth_of, read, symbol_of};
 
 // The size and the scope of a term.
 #[derive(Drop)]
 pub struct Extent {
     pub size: usize,
     pub scope: usize,
-}
-
-fn wide(x: u16) -> usize
-    ensures { (result ≡ x) × (result < 65536) }
-{
-    x as usize
 }
 
 // Those of the term that starts at i, where those of all later ones are known.
@@ -32,21 +25,21 @@ fn extent_at(letters: &Letters, sizes: &[u16], scopes: &[u16], i: usize) -> Exte
     if symbol < APPLICATOR {
         return Extent { size: 1, scope: 0 };
     }
-    let a = wide(sizes[i + 1]);
+    let a = usize::from(sizes[i + 1]);
     let m = i + 1 + a;
-    let x = wide(scopes[i + 1]);
-    let c = wide(sizes[m]);
-    let y = wide(scopes[m]);
+    let x = usize::from(scopes[i + 1]);
+    let c = usize::from(sizes[m]);
+    let y = usize::from(scopes[m]);
     let size = 1 + a + c;
     if symbol == APPLICATOR {
         return Extent {
             size,
-            scope: larger(x, y),
+            scope: x.max(y),
         };
     }
     Extent {
         size,
-        scope: larger(x, y + 1),
+        scope: x.max(y + 1),
     }
 }
 
@@ -55,10 +48,8 @@ fn note_depths(letters: &Letters, n: usize, depths: &mut [u8])
     requires { Notable letters.now depths.old n }
     ensures { DepthsNoted letters.now depths.old depths.new n }
 {
-    let mut i: usize = 0;
-    while i < n {
+    for i in 0..n {
         depths[i] = depth_of(letters[i]) as u8;
-        i += 1;
     }
 }
 
@@ -70,15 +61,13 @@ pub fn measure(
     scopes: &mut [u16],
     depths: &mut [u8],
 )
-    requires { WholeTerm t.now × (length letters.old ≡ longest_term) × (length t.now ≤ length sizes.old) × (length t.now ≤ length scopes.old) × (length t.now ≤ length depths.old) }
+    requires { WholeTerm t.now × (length t.now ≤ length sizes.old) × (length t.now ≤ length scopes.old) × (length t.now ≤ length depths.old) }
     ensures { Sized t.now sizes.new scopes.new × (length letters.new ≡ longest_term) × (length sizes.new ≡ length sizes.old) × (length scopes.new ≡ length scopes.old) × Depths t.now depths.new × (length depths.new ≡ length depths.old) }
 {
     let n = t.len();
-    read_long(t, 0, n, 0, 0, 0, MOST_ABSTRACTORS, letters, 0);
+    read(t, 0, n, 0, 0, 0, MOST_ABSTRACTORS, letters, 0);
     note_depths(letters, n, depths);
-    let mut i = n;
-    while i > 0 {
-        i -= 1;
+    for i in (0..n).rev() {
         let v = extent_at(letters, sizes, scopes, i);
         sizes[i] = v.size as u16;
         scopes[i] = v.scope as u16;

@@ -15,7 +15,7 @@ pub returns-then-l-r : goal.returns-then-l-r
 returns-then-l-r c = (lengths_differ c.replay-l.ensures c.if-l-ne-ACCEPTED.false c.replay-r.ensures c.if-r-ne-ACCEPTED.false c.if-l-r.true, record { left_long = c.replay-l.ensures.array; right_long = c.replay-r.ensures.array })
 
 pub same-requires : goal.same-requires
-same-requires c = (omega (arith, form_room c.replay-l.ensures c.requires.left_body c.if-l-ne-ACCEPTED.false, c.replay-l.ensures.array), c.replay-l.ensures.array, c.replay-r.ensures.array)
+same-requires c = omega (arith, form_room c.replay-l.ensures c.requires.left_body c.if-l-ne-ACCEPTED.false, c.replay-l.ensures.array)
 
 pub returns-then-not-same : goal.returns-then-not-same
 returns-then-not-same c = (letters_differ c.replay-l.ensures c.if-l-ne-ACCEPTED.false c.replay-r.ensures c.if-r-ne-ACCEPTED.false c.if-l-r.false c.same.ensures c.if-not-same.true, record { left_long = c.replay-l.ensures.array; right_long = c.replay-r.ensures.array })

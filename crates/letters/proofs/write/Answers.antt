@@ -6,20 +6,14 @@ use Rattle.letters.proofs.Letters.{lies_end}
 use Rattle.letters.proofs.Writing.{writing_next, writing_end}
 use Rattle.letters.proofs.write.Goals as goal
 
-pub loop-i-init : goal.loop-i-init
-loop-i-init c = record { same_length = refl; result = refl }
-
 pub offset_bounds-s-i : goal.offset_bounds-s-i
-offset_bounds-s-i c = omega (arith, lies_end c.requires.lies, c.requires.array)
+offset_bounds-s-i c = omega (arith, lies_end c.requires.lies)
 
 pub bounds-s-i : goal.bounds-s-i
 bounds-s-i c = omega (arith, lies_end c.requires.lies, c.requires.array)
 
 pub loop-i-preserved : goal.loop-i-preserved
-loop-i-preserved c = writing_next c.loop-i.invariant c.loop-i-test.true (lies_end c.requires.lies).1 c.byte_of.ensures
-
-pub shape_of-out : goal.shape_of-out
-shape_of-out c = c.loop-i.invariant.same_length
+loop-i-preserved c = writing_next c.loop-i.invariant c.loop-i-test.true (lies_end c.requires.lies).1 refl
 
 pub returns : goal.returns
 returns c = writing_end c.loop-i.invariant c.loop-i-test.false

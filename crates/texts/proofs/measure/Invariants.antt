@@ -5,6 +5,3 @@ use Rattle.texts.proofs.measure.Given as goal
 
 abbrev pub invariant-loop-i : goal.invariant-loop-i
 invariant-loop-i l = MeasuredFrom l.t l.letters l.initial.sizes l.initial.scopes l.sizes l.scopes l.i
-
-abbrev pub decreases-loop-i : goal.decreases-loop-i
-decreases-loop-i l = l.i
