@@ -1,6 +1,6 @@
 -- Bytes moved and written, and numbers noted.
 -- Assumes nothing.
-use Prim.Native.Nat.{ℕ, ◌+◌, ◌-◌, ◌*◌, ◌≤◌, ◌<◌}
+use Prim.Native.Nat.{ℕ, ◌+◌, ◌-◌, ◌≤◌, ◌<◌}
 use mathlib.Core.Path.{◌≡◌, refl, ap, sym, ◌∙◌}
 use mathlib.Core.Bool.{Bool, true, false, cond}
 use mathlib.Core.Logic.{◌⊎◌, inl, inr, ⊎_elim}
@@ -10,87 +10,26 @@ use native.Mathlib.Numerals.{add-one}
 use lib.ListN.{length, get_or, set, take, drop, length-set, length-take, length-drop, take-append-drop}
 use lib.Seq.{get_or-set_same, get_or-set_other, set-set, ext_get_or, get_or-take, get_or-drop}
 use Rattle.calculus.specs.Terms.{Term, lift, lift_index}
-use Rattle.calculus.proofs.Lift.{lo, hi, cmp, size_lift}
+use Rattle.calculus.proofs.Lift.{size_lift}
 use Rattle.code.specs.Limits.{longest_state}
 use Rattle.code.specs.Code.{encode}
 use Rattle.code.specs.Claims.{Stands}
 use Rattle.code.proofs.RoundTrip.{length_encode}
 use Rattle.code.proofs.Parts.{stands_start, stands_end, stands_taken, stands_unique}
 use Rattle.frames.specs.Stored.{Agree}
-use Rattle.frames.proofs.Entries.{agree_refl, agree_part, agree_trans, agree_set, agree_take}
+use Rattle.frames.proofs.Entries.{agree_part, agree_trans, agree_set, agree_take}
 use Rattle.parts.proofs.Stores.{drop_sets}
 use Rattle.indices.specs.Passes.{Replaced}
 use Rattle.indices.proofs.Replace.{lifted_stands, before_same}
-use Rattle.waiting.specs.Waiting.{Noted}
 use Rattle.texts.proofs.Origins.{origin_lift, origin_inside}
 use Rattle.texts.proofs.Depths.{origin_depth}
 use Rattle.waiting.specs.Writing.{Moved, Raised, Copied, Placed, Writable, Puts}
-use Rattle.waiting.specs.declared.Slot.{Slot}
 use Rattle.waiting.proofs.Copies.{one_index, one_lifted}
-
--- ---- Numbers noted.
-slot_eq : (a b : Slot) → a.place ≡ b.place → a.at ≡ b.at → a.depth ≡ b.depth → a.shift ≡ b.shift → a.cut ≡ b.cut → a.scope ≡ b.scope → a ≡ b
-slot_eq a b p q r s t u = rw (p, q, r, s, t, u)
-
--- one number set
-record Changed (q q' : List ℕ) (i x : ℕ) : Type 0 where
-  there : get_or q' i 0 ≡ x
-  others : (k : ℕ) → (k ≡ i → ⊥) → get_or q' k 0 ≡ get_or q k 0
-  long : length q' ≡ length q
-
-changed : (q : List ℕ) (i x : ℕ) → i < length q → Changed q (set q i x) i x
-changed q i x h = record { there = get_or-set_same q i x 0 h; others = λ k o. get_or-set_other q i k x 0 o; long = length-set q i x }
-
-all_six : {q a b c d e f : List ℕ} {j : ℕ} {v : Slot} → Changed q a (6 * j) v.place → Changed a b (6 * j + 1) v.at → Changed b c (6 * j + 2) v.depth → Changed c d (6 * j + 3) v.shift → Changed d e (6 * j + 4) v.cut
-    → Changed e f (6 * j + 5) v.scope → Noted q f j v
-all_six {j = j} {v = v} a b c d e f = record {
-  below = record { same = λ i g h. f.others i (λ z. omega arith) ∙ e.others i (λ z. omega arith) ∙ d.others i (λ z. omega arith) ∙ c.others i (λ z. omega arith) ∙ b.others i (λ z. omega arith) ∙ a.others i (λ z. omega arith) };
-  same_length = f.long ∙ e.long ∙ d.long ∙ c.long ∙ b.long ∙ a.long;
-  slot = slot_eq _ v (f.others (6 * j) (λ z. omega arith) ∙ e.others (6 * j) (λ z. omega arith) ∙ d.others (6 * j) (λ z. omega arith) ∙ c.others (6 * j) (λ z. omega arith) ∙ b.others (6 * j) (λ z. omega arith) ∙ a.there)
-      (f.others (6 * j + 1) (λ z. omega arith) ∙ e.others (6 * j + 1) (λ z. omega arith) ∙ d.others (6 * j + 1) (λ z. omega arith) ∙ c.others (6 * j + 1) (λ z. omega arith) ∙ b.there)
-      (f.others (6 * j + 2) (λ z. omega arith) ∙ e.others (6 * j + 2) (λ z. omega arith) ∙ d.others (6 * j + 2) (λ z. omega arith) ∙ c.there)
-      (f.others (6 * j + 3) (λ z. omega arith) ∙ e.others (6 * j + 3) (λ z. omega arith) ∙ d.there)
-      (f.others (6 * j + 4) (λ z. omega arith) ∙ e.there)
-      f.there;
-}
-
-module _ (q : List ℕ) (j : ℕ) (v : Slot) (h : 6 * j + 6 ≤ length q) where
-  pub in_1 : 6 * j + 1 < length (set q (6 * j) v.place)
-  in_1 = omega (arith, length-set q (6 * j) v.place)
-
-  pub in_2 : 6 * j + 2 < length (set (set q (6 * j) v.place) (6 * j + 1) v.at)
-  in_2 = omega (arith, length-set q (6 * j) v.place, length-set (set q (6 * j) v.place) (6 * j + 1) v.at)
-
-  pub in_3 : 6 * j + 3 < length (set (set (set q (6 * j) v.place) (6 * j + 1) v.at) (6 * j + 2) v.depth)
-  in_3 = omega (arith, length-set q (6 * j) v.place, length-set (set q (6 * j) v.place) (6 * j + 1) v.at, length-set (set (set q (6 * j) v.place) (6 * j + 1) v.at) (6 * j + 2) v.depth)
-
-  pub in_4 : 6 * j + 4 < length (set (set (set (set q (6 * j) v.place) (6 * j + 1) v.at) (6 * j + 2) v.depth) (6 * j + 3) v.shift)
-  in_4 = omega (arith, length-set q (6 * j) v.place, length-set (set q (6 * j) v.place) (6 * j + 1) v.at, length-set (set (set q (6 * j) v.place) (6 * j + 1) v.at) (6 * j + 2) v.depth, length-set (set (set (set q (6 * j) v.place) (6 * j + 1) v.at) (6 * j + 2) v.depth) (6 * j + 3) v.shift)
-
-  pub in_5 : 6 * j + 5 < length (set (set (set (set (set q (6 * j) v.place) (6 * j + 1) v.at) (6 * j + 2) v.depth) (6 * j + 3) v.shift) (6 * j + 4) v.cut)
-  in_5 = omega (arith, length-set q (6 * j) v.place, length-set (set q (6 * j) v.place) (6 * j + 1) v.at, length-set (set (set q (6 * j) v.place) (6 * j + 1) v.at) (6 * j + 2) v.depth, length-set (set (set (set q (6 * j) v.place) (6 * j + 1) v.at) (6 * j + 2) v.depth) (6 * j + 3) v.shift, length-set (set (set (set (set q (6 * j) v.place) (6 * j + 1) v.at) (6 * j + 2) v.depth) (6 * j + 3) v.shift) (6 * j + 4) v.cut)
-
-  pub noted : Noted q (set (set (set (set (set (set q (6 * j) v.place) (6 * j + 1) v.at) (6 * j + 2) v.depth) (6 * j + 3) v.shift) (6 * j + 4) v.cut) (6 * j + 5) v.scope) j v
-  noted = all_six (changed q (6 * j) v.place (omega arith)) (changed (set q (6 * j) v.place) (6 * j + 1) v.at in_1) (changed (set (set q (6 * j) v.place) (6 * j + 1) v.at) (6 * j + 2) v.depth in_2) (changed (set (set (set q (6 * j) v.place) (6 * j + 1) v.at) (6 * j + 2) v.depth) (6 * j + 3) v.shift in_3) (changed (set (set (set (set q (6 * j) v.place) (6 * j + 1) v.at) (6 * j + 2) v.depth) (6 * j + 3) v.shift) (6 * j + 4) v.cut in_4) (changed (set (set (set (set (set q (6 * j) v.place) (6 * j + 1) v.at) (6 * j + 2) v.depth) (6 * j + 3) v.shift) (6 * j + 4) v.cut) (6 * j + 5) v.scope in_5)
 
 -- ---- Bytes moved.
 -- a store below what is looked at
 agree_below : (w : List ℕ) {p e : ℕ} (i b : ℕ) → i < p → Agree w (set w i b) p e
 agree_below w i b h = record { same = λ j f g. get_or-set_other w i j b 0 (λ z. omega arith) }
-
-pub moved_none : (s w : List ℕ) (p to : ℕ) → Moved s w w p 0 to
-moved_none s w p to = record { same_length = refl; below = agree_refl; above = agree_refl; same = λ i h. absurd (omega arith) }
-
-pub moved_more : {s w w' : List ℕ} {p i to : ℕ} (v : ℕ) → to + i < length w → v ≡ get_or s (p + i) 0 → Moved s w w' p i to → Moved s w (set w' (to + i) v) p (i + 1) to
-moved_more {s} {w} {w'} {p} {i} {to} v h e m = record {
-  same_length = length-set w' (to + i) v ∙ m.same_length;
-  below = agree_trans m.below (agree_set w' (to + i) v (omega arith));
-  above = agree_trans (agree_part m.above (omega arith) (omega arith)) (agree_below w' (to + i) v (omega arith));
-  same = λ j g. elim (cmp i j) [
-    | lo a ↦ let q : j ≡ i = omega arith in rw q (get_or-set_same w' (to + i) v 0 (omega (arith, m.same_length)) ∙ e)
-    | hi a ↦ get_or-set_other w' (to + i) (to + j) v 0 (λ z. omega arith) ∙ m.same j a
-  ];
-}
 
 -- A term stands where its bytes stand.
 pub stands_same : {s w : List ℕ} {p e to : ℕ} {K : Term} → ((i : ℕ) → i < e - p → get_or w (to + i) 0 ≡ get_or s (p + i) 0) → to + (e - p) ≤ length w → Stands s p e K → Stands w to (to + (e - p)) K
@@ -210,26 +149,10 @@ module _ (mark : ℕ) {p e n c k to : ℕ} {s w : List ℕ} (x : Writable s w p 
 
 -- ---- Old and new place apart.
 module _ {p e to : ℕ} (l : p ≤ e) where
-  pub apart_copy : (e ≤ to) ⊎ (to + 1 + (e - p) ≤ p) → (p + (e - p) ≤ to + 1) ⊎ (to + 1 + (e - p) ≤ p)
-  apart_copy = ⊎_elim (λ a. inl (omega arith)) (λ a. inr a)
-
   pub apart_mark : (e ≤ to) ⊎ (to + 1 + (e - p) ≤ p) → (p + (e - p) ≤ to) ⊎ (to < p)
   apart_mark = ⊎_elim (λ a. inl (omega arith)) (λ a. inr (omega arith))
 
 -- ---- From the term, or from the work array.
-module _ (t w : List ℕ) where
-  pub source_term : (b : Bool) → b ≡ true → cond b t w ≡ t
-  source_term b h = rw h
-
-  pub source_work : (b : Bool) → b ≡ false → cond b t w ≡ w
-  source_work b h = rw h
-
-  pub source_length : (b : Bool) (i v : ℕ) → length (cond b t (set w i v)) ≡ length (cond b t w)
-  source_length true i v = refl
-  source_length false i v = length-set w i v
-
-  pub moved_term : {w' : List ℕ} {p n to : ℕ} (b : Bool) → b ≡ true → Moved t w w' p n to → Moved (cond b t w) w w' p n to
-  moved_term b h m = rw h m
-
-  pub moved_work : {w' : List ℕ} {p n to : ℕ} (b : Bool) → b ≡ false → Moved w w w' p n to → Moved (cond b t w) w w' p n to
-  moved_work b h m = rw h m
+pub source_length : (t w : List ℕ) (b : Bool) (i v : ℕ) → length (cond b t (set w i v)) ≡ length (cond b t w)
+source_length t w true i v = refl
+source_length t w false i v = length-set w i v

@@ -4,7 +4,6 @@ use Prim.Native.Nat.{ℕ, suc, ◌+◌, ◌-◌, ◌≤◌, ◌<◌}
 use mathlib.Core.Path.{◌≡◌, refl, ap, sym, ◌∙◌}
 use mathlib.Core.List.{List, ◌∷◌}
 use native.Mathlib.Omega.{arith}
-use native.Mathlib.Nat.{add-zero}
 use native.Mathlib.Numerals.{add-one}
 use lib.ListN.{length, get_or, set, drop, length-set, get_or-append, drop_of_length-le}
 use lib.Seq.{sets, drop-cons, get_or-drop, get_or-set_other}
@@ -46,13 +45,6 @@ module _ (n d b : ℕ) where
   raised_byte x = elim (cmp 254 b) [ lo a ↦ x.operator a ∙ rw (le-ltb b 254 a) | hi a ↦ x.index a ∙ rw (lt-ltb b 254 a) ]
 
 -- ---- A term of one byte.
-module _ (n c b : ℕ) {by low : ℕ} (qn : by ≡ n) (qc : low ≡ c) where
-  pub one_fits : (b < 254 → lift_index n c b < 256) → b < 254 → lift_index by (low + 0) b < 256
-  one_fits l h = rw (qn, qc, add-zero c) (l h)
-
-  pub one_raised : {r : ℕ} → Raised by (low + 0) b r → Raised n c b r
-  one_raised x = rw (qn, qc, add-zero c) at x
-
 module _ {s : List ℕ} {p e : ℕ} {X : Term} (n c : ℕ) (h : Stands s p e X) (q : e ≡ p + 1) where
   pub one_index : Coded (lift n c X) → get_or s p 0 < 254 → lift_index n c (get_or s p 0) < 256
   unfolding lift
@@ -111,23 +103,22 @@ module _ {w₀ depths : List ℕ} {from e o n c : ℕ} (x : Copied w₀ depths f
       byte_fits : lift_byte n (c + depth_in x.term i) (get_or w (from + i) 0) < 256
       byte_fits = rw byte_next at (encode_bytes x.coded i)
 
-      module _ {by low : ℕ} (qn : by ≡ n) (qc : low ≡ c) where
-        known : low + (get_or depths (o + i) 0 - get_or depths o 0) ≡ c + depth_in x.term i
-        known = omega (arith, depth_here)
+      known : c + (get_or depths (o + i) 0 - get_or depths o 0) ≡ c + depth_in x.term i
+      known = omega (arith, depth_here)
 
-        pub lifting_fits : get_or w (from + i) 0 < 254 → lift_index by (low + (get_or depths (o + i) 0 - get_or depths o 0)) (get_or w (from + i) 0) < 256
-        lifting_fits h = rw (known, qn) (index_fits n (c + depth_in x.term i) (get_or w (from + i) 0) byte_fits h)
+      pub lifting_fits : get_or w (from + i) 0 < 254 → lift_index n (c + (get_or depths (o + i) 0 - get_or depths o 0)) (get_or w (from + i) 0) < 256
+      lifting_fits h = rw known (index_fits n (c + depth_in x.term i) (get_or w (from + i) 0) byte_fits h)
 
-        pub lifting_next : {r : ℕ} → Raised by (low + (get_or depths (o + i) 0 - get_or depths o 0)) (get_or w (from + i) 0) r → Lifting w₀ (set w (from + i) r) from (i + 1) n c x.term
-        lifting_next {r} z =
-            let q : r ≡ lift_byte n (c + depth_in x.term i) (get_or w (from + i) 0) = raised_byte n (c + depth_in x.term i) (get_or w (from + i) 0) (rw (known, qn) at z) in
-            let next : drop i (encode (lift n c x.term)) ≡ r ∷ drop (i + 1) (encode (lift n c x.term)) = drop-cons (encode (lift n c x.term)) i 0 (omega (arith, length_encode (lift n c x.term), size_lift n c x.term, inner)) ∙ rw (byte_next, q, add-one i) in
-            let y : suc (from + i) ≡ from + (i + 1) = omega arith in
-            record {
-              result = ap (λ k. sets (set w (from + i) r) k (drop (i + 1) (encode (lift n c x.term)))) (sym y) ∙ sym (ap (sets w (from + i)) next) ∙ v.result;
-              same_length = length-set w (from + i) r ∙ v.same_length;
-              rest = λ k h. get_or-set_other w (from + i) k r 0 (λ z. omega arith) ∙ v.rest k (omega arith);
-            }
+      pub lifting_next : {r : ℕ} → Raised n (c + (get_or depths (o + i) 0 - get_or depths o 0)) (get_or w (from + i) 0) r → Lifting w₀ (set w (from + i) r) from (i + 1) n c x.term
+      lifting_next {r} z =
+          let q : r ≡ lift_byte n (c + depth_in x.term i) (get_or w (from + i) 0) = raised_byte n (c + depth_in x.term i) (get_or w (from + i) 0) (rw known at z) in
+          let next : drop i (encode (lift n c x.term)) ≡ r ∷ drop (i + 1) (encode (lift n c x.term)) = drop-cons (encode (lift n c x.term)) i 0 (omega (arith, length_encode (lift n c x.term), size_lift n c x.term, inner)) ∙ rw (byte_next, q, add-one i) in
+          let y : suc (from + i) ≡ from + (i + 1) = omega arith in
+          record {
+            result = ap (λ k. sets (set w (from + i) r) k (drop (i + 1) (encode (lift n c x.term)))) (sym y) ∙ sym (ap (sets w (from + i)) next) ∙ v.result;
+            same_length = length-set w (from + i) r ∙ v.same_length;
+            rest = λ k h. get_or-set_other w (from + i) k r 0 (λ z. omega arith) ∙ v.rest k (omega arith);
+          }
 
     pub lifting_end : e - from ≤ i → Replaced (lift n c) w₀ w from e
     lifting_end l = record {

@@ -34,12 +34,12 @@ pub fn slot_at(list: &[u16], j: usize) -> Slot
     ensures { (result ≡ slot_of list.now j) × SmallSlot result }
 {
     Slot {
-        place: wide16(list[6 * j]),
-        at: wide16(list[6 * j + 1]),
-        depth: wide16(list[6 * j + 2]),
-        shift: wide16(list[6 * j + 3]),
-        cut: wide16(list[6 * j + 4]),
-        scope: wide16(list[6 * j + 5]),
+        place: usize::from(list[6 * j]),
+        at: usize::from(list[6 * j + 1]),
+        depth: usize::from(list[6 * j + 2]),
+        shift: usize::from(list[6 * j + 3]),
+        cut: usize::from(list[6 * j + 4]),
+        scope: usize::from(list[6 * j + 5]),
     }
 }
 
@@ -51,7 +51,7 @@ pub fn low(list: &[u16], j: usize) -> usize
     if j == 0 {
         return LONGEST_STATE;
     }
-    wide16(list[6 * (j - 1) + 1])
+    usize::from(list[6 * (j - 1) + 1])
 }
 
 pub fn store_slot(list: &mut [u16], j: usize, v: Slot)
@@ -68,33 +68,10 @@ pub fn store_slot(list: &mut [u16], j: usize, v: Slot)
 
 // n bytes of t from p on.
 pub fn copy_from(t: &[u8], p: usize, n: usize, work: &mut Work, to: usize)
-    requires { (p + n ≤ length t.now) × (to + n ≤ longest_state) × (length work.old ≡ longest_state) }
+    requires { (p + n ≤ length t.now) × (to + n ≤ longest_state) }
     ensures { Moved t.now work.old work.new p n to }
 {
-    let mut i = 0;
-    while i < n {
-        work[to + i] = t[p + i];
-        i += 1;
-    }
-}
-
-// The same of the work array itself, where old and new place are apart.
-fn copy_in(work: &mut Work, p: usize, n: usize, to: usize)
-    requires { ((p + n ≤ to) ⊎ (to + n ≤ p)) × (p + n ≤ longest_state) × (to + n ≤ longest_state) × (length work.old ≡ longest_state) }
-    ensures { Moved work.old work.old work.new p n to }
-{
-    let mut i = 0;
-    while i < n {
-        work[to + i] = work[p + i];
-        i += 1;
-    }
-}
-
-fn byte(n: usize) -> u8
-    requires { n < 256 }
-    ensures { result ≡ n }
-{
-    n as u8
+    work[to..to + n].copy_from_slice(&t[p..p + n]);
 }
 
 // The index that a byte is: 0, which no lift raises, for an applicator or an abstractor.
@@ -104,19 +81,17 @@ fn index_of(b: u8) -> u8
     if b < 254 { b } else { 0 }
 }
 
-fn past(b: u8, low: u8) -> u8
-    ensures { result ≡ b - low }
-{
-    if b > low { b - low } else { 0 }
-}
-
 // The byte b with d abstractors of its term in scope, lifted by n above `low`. Each `if` only chooses a value: so a loop over it has no
 // branches and does several bytes at once.
 fn raised(b: u8, d: u8, n: u8, low: u8) -> u8
     requires { b < 254 → lift_index n (low + d) b < 256 }
     ensures { Raised n (low + d) b result }
 {
-    if past(index_of(b), low) > d { b + n } else { b }
+    if index_of(b).saturating_sub(low) > d {
+        b + n
+    } else {
+        b
+    }
 }
 
 // The byte of a term that is one byte, lifted by n above c.
@@ -124,7 +99,7 @@ fn lifted_byte(b: u8, n: usize, c: usize) -> u8
     requires { (n < 256) × (c < 256) × (b < 254 → lift_index n c b < 256) }
     ensures { Raised n c b result }
 {
-    raised(b, 0, byte(n), byte(c))
+    raised(b, 0, n as u8, c as u8)
 }
 
 // The term that stands in work from `from` up to `to`, a copy of one whose depths stand from o on, is lifted by n above c.
@@ -135,20 +110,15 @@ fn lift_copy(work: &mut Work, from: usize, to: usize, depths: &[u8], o: usize, n
     if n == 0 {
         return;
     }
-    let by = byte(n);
-    let low = byte(c);
     let base = depths[o];
-    let size = to - from;
-    let mut i = 0;
-    while i < size {
-        let b = work[from + i];
-        work[from + i] = raised(b, depths[o + i] - base, by, low);
-        i += 1;
+    for i in 0..to - from {
+        let d = depths[o + i] - base;
+        work[from + i] = raised(work[from + i], d, n as u8, c as u8);
     }
 }
 
 fn byte_in(t: &[u8], work: &Work, in_term: bool, p: usize) -> u8
-    requires { (p < length (cond in_term t.now work.now)) × (length work.now ≡ longest_state) }
+    requires { p < length (cond in_term t.now work.now) }
     ensures { result ≡ get_or (cond in_term t.now work.now) p 0 }
 {
     if in_term { t[p] } else { work[p] }
@@ -156,41 +126,14 @@ fn byte_in(t: &[u8], work: &Work, in_term: bool, p: usize) -> u8
 
 // n bytes from p on, of the term or of the work array.
 fn copy(t: &[u8], work: &mut Work, in_term: bool, p: usize, n: usize, to: usize)
-    requires { (p + n ≤ length (cond in_term t.now work.old)) × (in_term ≡ false → (p + n ≤ to) ⊎ (to + n ≤ p)) × (to + n ≤ longest_state) × (length work.old ≡ longest_state) }
+    requires { (p + n ≤ length (cond in_term t.now work.old)) × (to + n ≤ longest_state) }
     ensures { Moved (cond in_term t.now work.old) work.old work.new p n to }
 {
     if in_term {
         copy_from(t, p, n, work, to);
-        return;
+    } else {
+        work.copy_within(p..p + n, to);
     }
-    copy_in(work, p, n, to);
-}
-
-// The mark and a term, as `put` writes them: copied, and then lifted where it stands.
-fn put_long(
-    t: &[u8],
-    depths: &[u8],
-    work: &mut Work,
-    mark: u8,
-    in_term: bool,
-    p: usize,
-    e: usize,
-    o: usize,
-    to: usize,
-    n: usize,
-    c: usize,
-    m: usize,
-) -> usize
-    requires { PutAsked t.now depths.now work.old in_term p e o to n c m }
-    ensures { Puts mark (cond in_term t.now work.old) work.old work.new p e n c m to result }
-{
-    let size = e - p;
-    let end = to + 1 + size;
-    work[to] = mark;
-    copy(t, work, in_term, p, size, to + 1);
-    lift_copy(work, to + 1, end, depths, o, n, c);
-    lift_copy(work, to + 1, end, depths, o, m, 0);
-    end
 }
 
 // The mark, and the term from p up to e of t or of the work array, a copy of the text of t at o, lifted by n above c and then by m.
@@ -212,11 +155,17 @@ pub fn put(
     ensures { Puts mark (cond in_term t.now work.old) work.old work.new p e n c m to result }
 {
     let size = e - p;
+    let end = to + 1 + size;
+    // most terms are one byte
     if size == 1 {
         let b = byte_in(t, work, in_term, p);
         work[to] = mark;
         work[to + 1] = lifted_byte(lifted_byte(b, n, c), m, 0);
-        return to + 1 + size;
+        return end;
     }
-    put_long(t, depths, work, mark, in_term, p, e, o, to, n, c, m)
+    work[to] = mark;
+    copy(t, work, in_term, p, size, to + 1);
+    lift_copy(work, to + 1, end, depths, o, n, c);
+    lift_copy(work, to + 1, end, depths, o, m, 0);
+    end
 }

@@ -13,7 +13,7 @@ pub overflow_sub-at : goal.overflow_sub-at
 overflow_sub-at c = let r = c.requires.1.own_room (is_true _ c.if-not-s.false) in omega (arith, r.1, c.low.ensures)
 
 pub copy_from-requires : goal.copy_from-requires
-copy_from-requires c = let r = c.requires.1.own_room (is_true _ c.if-not-s.false) in (r.0, omega (arith, r.1, r.2, c.low.ensures), c.requires.1.work_long)
+copy_from-requires c = let r = c.requires.1.own_room (is_true _ c.if-not-s.false) in (r.0, omega (arith, r.1, r.2, c.low.ensures))
 
 pub returns : goal.returns
 returns c = let r = c.requires.1.own_room (is_true _ c.if-not-s.false) in (aside_own (is_true _ c.if-not-s.false) (omega (arith, r.1, c.low.ensures)) c.copy_from.ensures, omega (arith, r.1, r.2, c.low.ensures))
