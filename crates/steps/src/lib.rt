@@ -274,20 +274,11 @@ pub fn step_in_place(
     requires { SomeHeld work.now frame.now s.old n }
     ensures { Steps work.now frame.now s.old s.new n (record { kind = kind; place = place }) result }
 {
-    if kind == 0 {
-        return Err(StepError::NotPossible(Reason::UnknownKind));
+    match kind {
+        1..=3 if place >= n => Err(StepError::NotPossible(Reason::PastEnd)),
+        1 => local(s, n, work, frame, place),
+        2 => removal(s, n, place),
+        3 => whole(s, n, place, frame.len),
+        _ => Err(StepError::NotPossible(Reason::UnknownKind)),
     }
-    if kind > 3 {
-        return Err(StepError::NotPossible(Reason::UnknownKind));
-    }
-    if place >= n {
-        return Err(StepError::NotPossible(Reason::PastEnd));
-    }
-    if kind == 1 {
-        return local(s, n, work, frame, place);
-    }
-    if kind == 2 {
-        return removal(s, n, place);
-    }
-    whole(s, n, place, frame.len)
 }
