@@ -33,7 +33,7 @@ use Rattle.bodies.proofs.Endings.{ending_is}
 use Rattle.bodies.proofs.Places.{At, at_way}
 use Rattle.bodies.proofs.Meaning.{way_there}
 use Rattle.steps.specs.Lowering.{InScope}
-use Rattle.steps.specs.Couples.{InSomeBody, Tail, TailLies, SomeTail, PartnerIs, nobody, somebody, Partnered, SomeCouple, CoupleAt, Sought, no_couple, couple_there, Searches}
+use Rattle.steps.specs.Couples.{InSomeBody, Tail, TailLies, SomeTail, PartnerIs, nobody, somebody, Partnered, SomeCouple, CoupleAt, Places, Sought, no_couple, couple_there, Searches}
 use Rattle.steps.specs.declared.Couple.{Couple}
 use Rattle.steps.proofs.Tails.{tail_scope, tail_lies, passed_lie, item_end, application_is}
 
@@ -224,6 +224,9 @@ module _ {s : List ℕ} {p : ℕ} {x : Couple} (g : SomeCouple s p x) where
     record { deep = λ j l. rw (part_letter s x.rest x.end j l m) (rest_deep (x.rest + j) (omega arith) (omega arith)) },
     omega (arith, g.array),
   )
+
+pub found_places : {s : List ℕ} {n p : ℕ} {x : Couple} → InSomeBody s n p → Searches s n p (Ok x) → Places n p x
+found_places g c = let o = places (some_couple g c refl) in record { argument = o.0; between = o.1; domain = o.2; rest = o.3; inside = couple_inside g c refl; most = (bounds g).1; inner = o.5 }
 
 -- ---- Where there is none, both kinds are refused.
 pub search_refused : {s : List ℕ} {n p : ℕ} {r : Result Couple Reason} {y : Reason} → Searches s n p r → r ≡ Err y → (w : List ℕ) (f : FrameRecord)

@@ -1,6 +1,6 @@
 -- A couple of a body, on which kinds 2 and 3 work.
 -- Assumes nothing.
-use Rattle.std.specs.Prelude.{ℕ, suc, ◌+◌, ◌≤◌, ◌≡◌, Option, None, Some, List, [], ◌∷◌, ◌++◌, length, Ok, Err, Result}
+use Rattle.std.specs.Prelude.{ℕ, suc, ◌+◌, ◌≤◌, ◌<◌, ◌≡◌, Option, None, Some, List, [], ◌∷◌, ◌++◌, length, Ok, Err, Result}
 use Rattle.calculus.specs.Terms.{Term, app, abs, size}
 use Rattle.calculus.specs.Frames.{Frame, depth}
 use Rattle.calculus.specs.Steps.{no_partner, couples, Outcome, refused, at_partner, step}
@@ -87,6 +87,16 @@ pub record SomeCouple (s : List ℕ) (p : ℕ) (x : Couple) : Type 0 where
   pub U : Term
   pub B : Term
   pub lies : CoupleLies s p h d x j K U B
+
+-- The order of its places, in a body of n letters.
+pub record Places (n p : ℕ) (x : Couple) : Type 0 where
+  pub argument : p + 2 ≤ x.between
+  pub between : x.between ≤ x.abstractor
+  pub domain : x.abstractor < x.rest
+  pub rest : x.rest < x.end
+  pub inside : x.end ≤ n
+  pub most : n ≤ longest_term
+  pub inner : x.outer ≤ x.depth
 
 -- What stands between.
 abbrev pub remaining : List ℕ → Couple → List ℕ

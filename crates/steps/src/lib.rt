@@ -1,7 +1,7 @@
 // Steps on a body held as letters, after a frame (document 01, 'Steps'; requests (a) and (d)).
 #![tactic(auto)]
 
-ghost use Rattle.std.specs.Prelude.{◌≡◌, List, ◌++◌, map, ℕ, ◌+◌, ◌-◌, ◌≤◌, ◌<◌, length};
+ghost use Rattle.std.specs.Prelude.{◌≡◌, List, ◌++◌, map, ℕ, ◌+◌, ◌-◌, ◌≤◌, ◌<◌, length, IfOk};
 ghost use Rattle.code.specs.Limits.{longest_term};
 ghost use Rattle.frames.specs.declared.FrameRecord.{FrameRecord as Record};
 ghost use Rattle.letters.specs.Letters.{depth_of};
@@ -9,7 +9,7 @@ ghost use Rattle.bodies.specs.Held.{SomeHeld, Steps};
 ghost use Rattle.bodies.specs.Moving.{Spliced};
 ghost use Rattle.steps.specs.Lowering.{lowered_letter, is_use, InScope};
 ghost use Rattle.steps.specs.Lifting.{LettersLiftable, LettersLifted};
-ghost use Rattle.steps.specs.Couples.{InSomeBody, InBodyAfter, SomeTail, Partnered, remaining, Searches};
+ghost use Rattle.steps.specs.Couples.{InSomeBody, InBodyAfter, SomeTail, Partnered, remaining, Searches, Places};
 ghost use Rattle.steps.specs.Filling.{use_depth, UsesAre, filling, LetterFillable, LetterFills, Fillable, Fills, Rewritable};
 
 use bodies::{Reason, StepError, deepest, end_of, lifted_letter, local, narrow};
@@ -57,7 +57,8 @@ fn abstractor_after(s: &Letters, n: usize, m: usize, h: usize) -> Option<usize>
 // The couple at place p of the body in the first n letters, or why there is none.
 fn couple_at(s: &Letters, n: usize, p: usize) -> Result<Couple, Reason>
     requires { InSomeBody s.now n p }
-    ensures { Searches s.now n p result }
+    ensures sought { Searches s.now n p result }
+    ensures places { IfOk result (λ x. Places n p x) }
 {
     let v = s[p];
     if symbol_of(v) != APPLICATOR {
@@ -150,21 +151,15 @@ fn removal(s: &mut Letters, n: usize, p: usize) -> Result<usize, StepError>
     ensures { (w : List ℕ) (f : Record) → Steps w f s.old s.new n (record { kind = 2; place = p }) result }
 {
     let x = couple_at(s, n, p)?;
-    let c = x.depth;
-    let m = x.between;
-    let a = x.abstractor;
-    let q = x.rest;
-    let e = x.end;
-    let u = measure(&s[q..e], c);
-    let count = u.count;
+    let count = measure(&s[x.rest..x.end], x.depth).count;
     if count > 0 {
         return Err(StepError::NotPossible(Reason::StillUsed));
     }
-    s.copy_within(m..a, p);
-    lower_part(&mut s[q..e], c);
-    let at = p + (a - m);
-    s.copy_within(q..n, at);
-    Ok(n - (q - at))
+    s.copy_within(x.between..x.abstractor, p);
+    lower_part(&mut s[x.rest..x.end], x.depth);
+    let at = p + (x.abstractor - x.between);
+    s.copy_within(x.rest..n, at);
+    Ok(n - (x.rest - at))
 }
 
 // ---- The whole substitution.
@@ -184,16 +179,14 @@ fn fill_letter(s: &Letters, p: usize, x: Couple, y: u32, out: &mut [u32], j: usi
     requires { LetterFillable s.now p x y out.old j }
     ensures { LetterFills s.now p x y out.old out.new j result }
 {
-    let c = x.depth;
-    if !is_use(y, c) {
-        out[j] = lowered_letter(y, c);
+    if !is_use(y, x.depth) {
+        out[j] = lowered_letter(y, x.depth);
         return j + 1;
     }
-    let o = x.outer;
-    let k = narrow(depth_of(y)) - 1 - o;
     let argument = &s[p + 1..x.between];
     let end = j + argument.len();
-    lift_to(argument, o, k, narrow(height_of(y)), &mut out[j..end]);
+    let k = narrow(depth_of(y)) - 1 - x.outer;
+    lift_to(argument, x.outer, k, narrow(height_of(y)), &mut out[j..end]);
     end
 }
 
@@ -228,11 +221,11 @@ fn substitute(s: &mut Letters, n: usize, p: usize, x: Couple, size: usize)
 {
     if size <= 256 {
         let mut small: [u32; 256] = [0; 256];
-        rewrite(s, n, p, x, size, &mut small[..]);
+        rewrite(s, n, p, x, size, &mut small);
         return;
     }
     let mut large: Letters = [0; LONGEST_TERM];
-    rewrite(s, n, p, x, size, &mut large[..]);
+    rewrite(s, n, p, x, size, &mut large);
 }
 
 // Kind 3 at place p, after a frame of len entries. Only the final form is measured, before anything is written.
@@ -241,21 +234,14 @@ fn whole(s: &mut Letters, n: usize, p: usize, len: usize) -> Result<usize, StepE
     ensures { (w : List ℕ) (f : Record) → f.len ≡ len → Steps w f s.old s.new n (record { kind = 3; place = p }) result }
 {
     let x = couple_at(s, n, p)?;
-    let o = x.outer;
-    let c = x.depth;
-    let m = x.between;
-    let a = x.abstractor;
-    let q = x.rest;
-    let e = x.end;
-    let u = measure(&s[q..e], c);
-    let count = u.count;
-    let most = u.deepest;
-    let kept = n - (e - p) + (a - m);
-    let size = e - q + wide(count) * (m - p - 2);
+    let uses = measure(&s[x.rest..x.end], x.depth);
+    let kept = n - (x.end - p) + (x.abstractor - x.between);
+    let size = x.end - x.rest + wide(uses.count) * (x.between - p - 2);
     if kept + size > LONGEST_TERM {
         return Err(StepError::Outgrown);
     }
-    if most + (deepest(s, p + 1, m) - o) > narrow(MOST_ABSTRACTORS - len) + 1 {
+    let most = uses.deepest + (deepest(s, p + 1, x.between) - x.outer);
+    if most > narrow(MOST_ABSTRACTORS - len) + 1 {
         return Err(StepError::Outgrown);
     }
     substitute(s, n, p, x, size);

@@ -6,9 +6,6 @@ use Rattle.steps.proofs.Tails.{passing_start, passing_bounds, passed_all, passed
 use Rattle.steps.proofs.abstractor_after.Goals as goal
 use Rattle.steps.proofs.abstractor_after.Goals.{then-symbol-eq-APPLICATOR, else-symbol-eq-APPLICATOR+else-unmatched-eq0}
 
-pub offset_bounds-s-q : goal.offset_bounds-s-q
-offset_bounds-s-q c = omega (arith, passing_bounds c.requires passing_start)
-
 pub bounds-s-q : goal.bounds-s-q
 bounds-s-q c = omega (arith, passing_bounds c.requires passing_start)
 
@@ -21,29 +18,13 @@ overflow_add-unmatched c = omega (arith, passing_bounds c.requires c.loop-symbol
 pub returns-then-unmatched-eq0 : goal.returns-then-unmatched-eq0
 returns-then-unmatched-eq0 c = let w = c.loop-symbol.invariant in passed_partner c.requires w.0 w.1 c.loop-symbol-test.true c.if-symbol-eq-APPLICATOR.false c.if-unmatched-eq0.true
 
-pub overflow_sub-unmatched : goal.overflow_sub-unmatched
-overflow_sub-unmatched c = omega (arith, c.if-unmatched-eq0.false)
-
-pub overflow_add-q : goal.overflow_add-q
-overflow_add-q c = omega (arith, passing_bounds c.requires c.loop-symbol.invariant.0)
-
-pub overflow_add-h : goal.overflow_add-h
-overflow_add-h c = omega (arith, passing_bounds c.requires c.loop-symbol.invariant.0)
-
 pub end_of-q-requires : goal.end_of-q-requires
 end_of-q-requires c = let b = passing_bounds c.requires c.loop-symbol.invariant.0 in (b.3, b.2, omega arith)
 
--- The wagon at q is passed, whichever it is: three times, each with a name of its own, which a must-fail edit goes by.
-pub offset_bounds-s-q-in-loop-symbol : goal.offset_bounds-s-q-in-loop-symbol
-offset_bounds-s-q-in-loop-symbol c = let w = c.loop-symbol.invariant in
-    omega (arith, passing_bounds c.requires (pass_item c.requires w.0 w.1 c.loop-symbol-test.true (elim c.if-symbol-eq-APPLICATOR.branch [ then-symbol-eq-APPLICATOR a ↦ inl (a.if-symbol-eq-APPLICATOR.true, a.unmatched-is) | else-symbol-eq-APPLICATOR+else-unmatched-eq0 a ↦ inr (a.if-symbol-eq-APPLICATOR.false, a.if-unmatched-eq0.false, a.unmatched-is) ]) c.end_of-q.ensures))
-
+-- The wagon at q is passed, whichever it is: twice, each with a name of its own, which a must-fail edit goes by.
 pub bounds-s-q-in-loop-symbol : goal.bounds-s-q-in-loop-symbol
 bounds-s-q-in-loop-symbol c = let w = c.loop-symbol.invariant in
     omega (arith, passing_bounds c.requires (pass_item c.requires w.0 w.1 c.loop-symbol-test.true (elim c.if-symbol-eq-APPLICATOR.branch [ then-symbol-eq-APPLICATOR b ↦ inl (b.if-symbol-eq-APPLICATOR.true, b.unmatched-is) | else-symbol-eq-APPLICATOR+else-unmatched-eq0 b ↦ inr (b.if-symbol-eq-APPLICATOR.false, b.if-unmatched-eq0.false, b.unmatched-is) ]) c.end_of-q.ensures))
-
-pub loop-symbol-smaller : goal.loop-symbol-smaller
-loop-symbol-smaller c = omega (arith, passing_bounds c.requires c.loop-symbol.invariant.0, c.end_of-q.ensures.after, c.end_of-q.ensures.inside)
 
 pub loop-symbol-preserved : goal.loop-symbol-preserved
 loop-symbol-preserved c = let w = c.loop-symbol.invariant in

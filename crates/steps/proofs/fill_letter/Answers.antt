@@ -10,29 +10,11 @@ use Rattle.steps.proofs.Couples.{places}
 use Rattle.steps.proofs.Writing.{no_use, some_use, other_fits, other_stored, use_liftable, use_stored}
 use Rattle.steps.proofs.fill_letter.Goals as goal
 
-pub is_use-requires : goal.is_use-requires
-is_use-requires c = c.requires.inner
-
-pub lowered_letter-requires : goal.lowered_letter-requires
-lowered_letter-requires c = c.requires.inner
-
-pub offset_bounds-out-j : goal.offset_bounds-out-j
-offset_bounds-out-j c = omega (arith, other_fits c.requires (no_use _ _ c.is_use.ensures c.if-not-is_use.true))
-
 pub bounds-out-j : goal.bounds-out-j
 bounds-out-j c = omega (arith, other_fits c.requires (no_use _ _ c.is_use.ensures c.if-not-is_use.true))
 
-pub overflow_add-result : goal.overflow_add-result
-overflow_add-result c = omega (arith, other_fits c.requires (no_use _ _ c.is_use.ensures c.if-not-is_use.true))
-
 pub returns-then-not-is_use : goal.returns-then-not-is_use
 returns-then-not-is_use c = other_stored c.requires (no_use _ _ c.is_use.ensures c.if-not-is_use.true) c.lowered_letter.ensures
-
-pub overflow_sub-k : goal.overflow_sub-k
-overflow_sub-k c = omega (arith, places c.requires.couple, c.requires.inner, c.narrow.ensures, c.depth_of.ensures.0)
-
-pub overflow_sub-k-2 : goal.overflow_sub-k-2
-overflow_sub-k-2 c = omega (arith, places c.requires.couple, c.requires.inner, c.narrow.ensures, c.depth_of.ensures.0)
 
 pub offset_bounds-s-p : goal.offset_bounds-s-p
 offset_bounds-s-p c = omega (arith, places c.requires.couple)

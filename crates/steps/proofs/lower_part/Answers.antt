@@ -1,14 +1,9 @@
 -- `steps::lower_part` meets its contract: by the laws of Storing.antt.
 -- Assumes nothing.
 use native.Mathlib.Omega.{arith}
-use mathlib.Core.Path.{ap}
-use Rattle.letters.specs.Letters.{depth_of}
 use Rattle.steps.specs.Lowering.{lowered_letter}
-use Rattle.steps.proofs.Storing.{changing_letter, changing_next}
+use Rattle.steps.proofs.Storing.{changing_next}
 use Rattle.steps.proofs.lower_part.Goals as goal
-
-pub lowered_letter-requires : goal.lowered_letter-requires
-lowered_letter-requires c = omega (arith, ap depth_of (changing_letter (lowered_letter c.args.c) c.args.rest.now c.loop-x.x-index (omega arith) c.loop-x.invariant), c.requires.deep c.loop-x.x-index (omega arith))
 
 pub loop-x-preserved : goal.loop-x-preserved
 loop-x-preserved c = changing_next (lowered_letter c.args.c) c.args.rest.now c.loop-x.x-index (omega arith) c.loop-x.invariant c.lowered_letter.ensures

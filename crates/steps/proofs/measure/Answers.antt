@@ -5,9 +5,6 @@ use Rattle.steps.proofs.Lowering.{counting_next}
 use Rattle.steps.proofs.Writing.{deepening_next, measured}
 use Rattle.steps.proofs.measure.Goals as goal
 
-pub loop-x-init : goal.loop-x-init
-loop-x-init c = (record { few = omega arith; sum = omega arith }, record { small = omega arith; result = omega arith })
-
 pub loop-x-preserved : goal.loop-x-preserved
 loop-x-preserved c = let w = c.loop-x.invariant in (
   counting_next w.0 (omega arith) c.is_use.ensures c.from-count.ensures,

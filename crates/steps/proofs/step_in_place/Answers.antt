@@ -8,15 +8,6 @@ use Rattle.steps.proofs.step_in_place.Goals as goal
 pub returns-in-1-to-3 : goal.returns-in-1-to-3
 returns-in-1-to-3 c = past_refused (omega arith) (omega arith) c.if-place-n.true
 
-pub local-requires : goal.local-requires
-local-requires c = record { some_held = c.requires; inside = c.if-place-n.false }
-
-pub returns-in-1 : goal.returns-in-1
-returns-in-1 c = as_kind c.in-1.is c.local.ensures
-
-pub removal-requires : goal.removal-requires
-removal-requires c = record { work = _; frames = _; in_body = record { some_held = c.requires; inside = c.if-place-n.false } }
-
 pub returns-in-2 : goal.returns-in-2
 returns-in-2 c = as_kind c.in-2.is (c.removal.ensures _ _)
 
