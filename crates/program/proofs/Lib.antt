@@ -1,4 +1,4 @@
 -- The laws of this crate.
 -- Assumes nothing.
-pub mod Adding
+pub mod Ascii
 pub mod Told

@@ -9,7 +9,6 @@ use lib.Seq.{length-sets}
 use Rattle.code.specs.Limits.{longest_term}
 use Rattle.code.specs.Code.{Bytes, encode}
 use Rattle.code.proofs.RoundTrip.{length_encode}
-use Rattle.streams.proofs.Counting.{prefix_len_of_le}
 use Rattle.explaining.specs.Explain.{Explanation, explain_file}
 use Rattle.explaining.specs.Clauses.{explained_says}
 use Rattle.explaining.specs.Claims.{BodiesTold}
@@ -25,8 +24,8 @@ module _ (s left right : List ℕ) (l : length left ≡ longest_term) (r : lengt
       let e = length_encode d.left_body in
       let f = length_encode d.right_body in
       record {
-        left_counts = prefix_len_of_le _ _ (omega (arith, d.left_room));
-        right_counts = prefix_len_of_le _ _ (omega (arith, d.right_room));
+        left_counts = omega (arith, d.left_room);
+        right_counts = omega (arith, d.right_room);
         left_short = omega (arith, d.left_room);
         right_short = omega (arith, d.right_room);
         in_left = omega (arith, d.difference_is, d.left_length, d.differing.in_left);

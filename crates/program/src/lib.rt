@@ -7,16 +7,18 @@ mod explanation;
 
 ghost use Rattle.std.specs.Prelude.{◌≡◌, ◌+◌, ◌≤◌, length};
 ghost use Rattle.std.specs.Io.{ReadsAtMost};
-ghost use Rattle.streams.specs.Clauses.{Added};
-ghost use Rattle.program.specs.Clauses.{answer_room};
+ghost use Rattle.arrayvec.specs.ArrayString.{array_string_len};
+ghost use Rattle.program.specs.Clauses.{answer_room, Added};
 
+use arrayvec::ArrayString;
 use code::numbers::ACCEPTED;
 use counting::LONGEST_COUNTED;
-use explanation::LONGEST_EXPLANATION;
+use explanation::Text;
 use printing::LONGEST_PAGE;
-use std::io;
 use std::io::{Read, Write};
 use std::process::ExitCode;
+use std::{fmt, io};
+use streams::{Reason, push_number};
 
 // One byte more than the longest file or set.
 const INPUT_ROOM: usize = 65536;
@@ -36,67 +38,56 @@ fn get<R: Read>(input: &mut R, buffer: &mut [u8]) -> Result<usize, Failure>
     ensures counts { ReadsAtMost result buffer.new }
     ensures same_length { length buffer.new ≡ length buffer.old }
 {
-    match streams::read_input(input, buffer) {
-        Ok(n) => Ok(n),
-        Err(error) => Err(Failure::Input(error)),
-    }
+    streams::read_input(input, buffer).map_err(Failure::Input)
 }
 
 // Writes the answer.
 fn put<W: Write>(output: &mut W, answer: &[u8]) -> Result<(), Failure> {
-    match streams::write_all(output, answer) {
-        Ok(()) => Ok(()),
-        Err(error) => Err(Failure::Output(error)),
+    streams::write_all(output, answer).map_err(Failure::Output)
+}
+
+impl fmt::Display for Failure {
+    fn fmt<W: fmt::Write>(&self, f: &mut fmt::Formatter<W>) -> fmt::Result {
+        match self {
+            Failure::Input(error) => write!(f, "standard input: {}", Reason(error)),
+            Failure::Output(error) => write!(f, "standard output: {}", Reason(error)),
+            Failure::Refused(number, place) => write!(f, "{number} {place}"),
+        }
     }
 }
 
 // The exit status: 2 if the input could not be read or the answer not written, and 1 if the input is refused. It is said on standard error.
-fn status<R: Eprint + AllocGlobal>(rt: &R, program: &str, ended: Result<(), Failure>) -> ExitCode {
-    match ended {
-        Ok(()) => ExitCode::SUCCESS,
-        Err(Failure::Input(error)) => {
-            say(rt, program, "input", &error);
-            ExitCode::from(2)
-        }
-        Err(Failure::Output(error)) => {
-            say(rt, program, "output", &error);
-            ExitCode::from(2)
-        }
-        Err(Failure::Refused(number, place)) => {
-            let _said = eprintln!(rt; "{number} {place}");
-            ExitCode::from(1)
-        }
-    }
-}
-
-// Says why a stream failed.
-fn say<R: Eprint + AllocGlobal>(rt: &R, program: &str, stream: &str, error: &io::Error) {
-    let _said = match streams::reason(rt.alloc(), error) {
-        Ok(reason) => eprintln!(rt; "{program}: standard {stream}: {reason}"),
-        Err(_) => eprintln!(rt; "{program}: standard {stream}: {error}"),
+fn status<R: Eprint>(rt: &R, program: &str, ended: Result<(), Failure>) -> ExitCode {
+    let Err(failure) = ended else {
+        return ExitCode::SUCCESS;
     };
+    if let Failure::Refused(_, _) = failure {
+        let _said = eprintln!(rt; "{failure}");
+        return ExitCode::from(1);
+    }
+    let _said = eprintln!(rt; "{program}: {failure}");
+    ExitCode::from(2)
 }
 
-// Puts number, place, comparisons and degree into a line, in decimal, one space between, then a line feed: where they end.
-fn add_answer(
-    line: &mut [u8],
-    at: usize,
+// Puts number, place, comparisons and degree into a line, in decimal, one space between, then a line feed.
+fn push_answer<const N: usize>(
+    line: &mut ArrayString<N>,
     number: u32,
     place: usize,
     comparisons: usize,
     degree: usize,
-) -> usize
-    requires { at + answer_room ≤ length line.old }
-    ensures { Added at answer_room line.old result line.new }
+)
+    requires { array_string_len line.old + answer_room ≤ N }
+    ensures { Added answer_room line.old line.new }
 {
-    let after_number = streams::add_number(line, at, number as u64, b' ');
-    let after_place = streams::add_number(line, after_number, place as u64, b' ');
-    let after_comparisons = streams::add_number(line, after_place, comparisons as u64, b' ');
-    streams::add_number(line, after_comparisons, degree as u64, b'\n')
+    push_number(line, number as u64, ' ');
+    push_number(line, place as u64, ' ');
+    push_number(line, comparisons as u64, ' ');
+    push_number(line, degree as u64, '\n');
 }
 
 // `bijterne`: checks a file and writes the four numbers of its answer. The exit status is 0 if they were written, whatever they say.
-pub fn bijterne_run<R: Input + Print + Eprint + AllocGlobal>(rt: &R) -> ExitCode {
+pub fn bijterne_run<R: Input + Print + Eprint>(rt: &R) -> ExitCode {
     status(
         rt,
         "bijterne",
@@ -105,7 +96,7 @@ pub fn bijterne_run<R: Input + Print + Eprint + AllocGlobal>(rt: &R) -> ExitCode
 }
 
 // `explain`: checks a file and writes the four numbers of its answer, and what they say of it. The exit status is as for `bijterne`.
-pub fn explain_run<R: Input + Print + Eprint + AllocGlobal>(rt: &R) -> ExitCode {
+pub fn explain_run<R: Input + Print + Eprint>(rt: &R) -> ExitCode {
     status(
         rt,
         "explain",
@@ -114,7 +105,7 @@ pub fn explain_run<R: Input + Print + Eprint + AllocGlobal>(rt: &R) -> ExitCode 
 }
 
 // `shelf`: checks a set and writes the five numbers of its answer. The exit status is as for `bijterne`.
-pub fn shelf_run<R: Input + Print + Eprint + AllocGlobal>(rt: &R) -> ExitCode {
+pub fn shelf_run<R: Input + Print + Eprint>(rt: &R) -> ExitCode {
     status(
         rt,
         "shelf",
@@ -123,7 +114,7 @@ pub fn shelf_run<R: Input + Print + Eprint + AllocGlobal>(rt: &R) -> ExitCode {
 }
 
 // `page`: writes the page of a bare term. At a refusal it writes number and place to standard error, and the exit status is 1.
-pub fn page_run<R: Input + Print + Eprint + AllocGlobal>(rt: &R) -> ExitCode {
+pub fn page_run<R: Input + Print + Eprint>(rt: &R) -> ExitCode {
     status(
         rt,
         "page",
@@ -133,7 +124,7 @@ pub fn page_run<R: Input + Print + Eprint + AllocGlobal>(rt: &R) -> ExitCode {
 
 // `counts`: writes a line for each length from 0 to 7: the length, and how many strings of it the examining call accepts, refuses with 3
 // and refuses with 5.
-pub fn counts_run<R: Print + Eprint + AllocGlobal>(rt: &R) -> ExitCode {
+pub fn counts_run<R: Print + Eprint>(rt: &R) -> ExitCode {
     status(rt, "counts", count_strings(&mut io::writer(rt)))
 }
 
@@ -141,27 +132,27 @@ fn answer_file<R: Read, W: Write>(input: &mut R, output: &mut W) -> Result<(), F
     let mut buffer = [0u8; INPUT_ROOM];
     let n = get(input, &mut buffer)?;
     let a = checker::check(&buffer[..n]);
-    let mut line = [0u8; LINES_ROOM];
-    let end = add_answer(&mut line, 0, a.number, a.place, a.comparisons, a.degree);
-    put(output, &line[..end])
+    let mut line: ArrayString<LINES_ROOM> = ArrayString::new();
+    push_answer(&mut line, a.number, a.place, a.comparisons, a.degree);
+    put(output, line.as_bytes())
 }
 
 fn explain_file<R: Read, W: Write>(input: &mut R, output: &mut W) -> Result<(), Failure> {
     let mut buffer = [0u8; INPUT_ROOM];
     let n = get(input, &mut buffer)?;
-    let mut text = [0u8; LONGEST_EXPLANATION];
-    let end = explanation::explain(&buffer[..n], &mut text);
-    put(output, &text[..end])
+    let mut text = Text::new();
+    explanation::explain(&buffer[..n], &mut text);
+    put(output, text.as_bytes())
 }
 
 fn answer_set<R: Read, W: Write>(input: &mut R, output: &mut W) -> Result<(), Failure> {
     let mut buffer = [0u8; INPUT_ROOM];
     let n = get(input, &mut buffer)?;
     let a = sets::check_set(&buffer[..n]);
-    let mut line = [0u8; LINES_ROOM];
-    let file = streams::add_number(&mut line, 0, a.file as u64, b' ');
-    let end = add_answer(&mut line, file, a.number, a.place, a.comparisons, a.degree);
-    put(output, &line[..end])
+    let mut line: ArrayString<LINES_ROOM> = ArrayString::new();
+    push_number(&mut line, a.file as u64, ' ');
+    push_answer(&mut line, a.number, a.place, a.comparisons, a.degree);
+    put(output, line.as_bytes())
 }
 
 fn print_term<R: Read, W: Write>(input: &mut R, output: &mut W) -> Result<(), Failure> {
@@ -178,23 +169,20 @@ fn print_term<R: Read, W: Write>(input: &mut R, output: &mut W) -> Result<(), Fa
 }
 
 fn count_strings<W: Write>(output: &mut W) -> Result<(), Failure> {
-    let mut lines = [0u8; LINES_ROOM];
-    let mut end: usize = 0;
-    let mut n: usize = 0;
-    while n <= LONGEST_COUNTED {
-        end = add_counts(&mut lines, end, n);
-        n += 1;
+    let mut lines: ArrayString<LINES_ROOM> = ArrayString::new();
+    for n in 0..=LONGEST_COUNTED {
+        push_counts(&mut lines, n);
     }
-    put(output, &lines[..end])
+    put(output, lines.as_bytes())
 }
 
-fn add_counts(lines: &mut [u8], at: usize, n: usize) -> usize
-    requires { at + answer_room ≤ length lines.old }
-    ensures { Added at answer_room lines.old result lines.new }
+fn push_counts<const N: usize>(lines: &mut ArrayString<N>, n: usize)
+    requires { array_string_len lines.old + answer_room ≤ N }
+    ensures { Added answer_room lines.old lines.new }
 {
     let a = counting::count_strings(n);
-    let length = streams::add_number(lines, at, n as u64, b' ');
-    let accepted = streams::add_number(lines, length, a.accepted, b' ');
-    let malformed = streams::add_number(lines, accepted, a.malformed, b' ');
-    streams::add_number(lines, malformed, a.unbound, b'\n')
+    push_number(lines, n as u64, ' ');
+    push_number(lines, a.accepted, ' ');
+    push_number(lines, a.malformed, ' ');
+    push_number(lines, a.unbound, '\n');
 }

@@ -1,5 +1,4 @@
 -- The laws of this crate.
 -- Assumes nothing.
-pub mod Counting
 pub mod Reading
 mod Writing

@@ -1,17 +1,7 @@
--- Inner contracts: what is added to a text.
+-- Inner contracts: a number in a text.
 -- Assumes nothing.
-use Rattle.std.specs.Prelude.{ℕ, ◌+◌, ◌≤◌, ◌≡◌, List, length, take}
-
--- n bytes stand at the start of a text.
-abbrev pub IsPrefixLen : ℕ → List ℕ → Type 0
-IsPrefixLen n text = (n ≤ length text) × (n ≡ length (take n text))
+use Rattle.std.specs.Prelude.{ℕ}
 
 -- A number of 64 bits in decimal, and a byte after it.
 abbrev pub number_room : ℕ
 number_room = 21
-
--- At most so many bytes were put into a text, from a place on. They end within it, and it keeps its length.
-pub record Added (at room : ℕ) (text : List ℕ) (end : ℕ) (text' : List ℕ) : Type 0 where
-  pub within : end ≤ at + room
-  pub counts : IsPrefixLen end text'
-  pub same_length : length text' ≡ length text

@@ -1,12 +1,9 @@
--- `program::count_strings` is safe and ends: each line takes at most its room.
+-- `program::count_strings` has room for each line.
 -- Assumes nothing.
-use Rattle.std.proofs.Common.{◌+◌, ◌-◌, ◌≡◌, ◌≤◌, ◌*◌, length}
+use Rattle.std.proofs.Common.{◌≤◌, ◌*◌}
+use Rattle.arrayvec.specs.ArrayString.{array_string_len}
 use Rattle.program.specs.Clauses.{answer_room}
-use Rattle.streams.specs.Clauses.{IsPrefixLen}
 use Rattle.program.proofs.count_strings.Given as goal
 
 abbrev pub invariant-loop-n : goal.invariant-loop-n
-invariant-loop-n g l = (l.end ≤ answer_room * l.n) × (length l.lines ≡ 4096) × IsPrefixLen l.end l.lines
-
-abbrev pub decreases-loop-n : goal.decreases-loop-n
-decreases-loop-n g l = 7 + 1 - l.n
+invariant-loop-n g l = array_string_len l.lines ≤ answer_room * l.n

@@ -5,5 +5,8 @@ use Rattle.program.proofs.Told.{told_bodies}
 use borrow.Author.Rules.{rules}
 use Rattle.program.proofs.explanation.explain.Goals as goal
 
-pub add_bodies-requires : goal.add_bodies-requires
-add_bodies-requires c = (told_bodies c.args.s.now _ _ refl refl _ (λ i. (c.type_inv.s i).fits) c.explain-e.ensures c.if-number-ne-BODIES_DIFFER.false, search rules)
+pub push_bodies-requires : goal.push_bodies-requires
+push_bodies-requires c = record {
+  bodies = told_bodies c.args.s.now _ _ refl refl _ (λ i. (c.type_inv.s i).fits) c.explain-e.ensures c.if-number-eq-BODIES_DIFFER.true;
+  room = search rules;
+}

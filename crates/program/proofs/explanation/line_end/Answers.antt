@@ -1,11 +1,10 @@
 -- `program::explanation::line_end` meets its contract.
 -- Assumes nothing.
 use native.Mathlib.Omega.{arith}
-use Rattle.streams.proofs.Counting.{prefix_len_of_le}
 use Rattle.program.proofs.explanation.line_end.Goals as goal
 
 pub returns-then-end-s : goal.returns-then-end-s
-returns-then-end-s c = record { past = omega arith; counts = prefix_len_of_le _ _ (omega arith); lines = omega arith }
+returns-then-end-s c = record { past = omega arith; within = omega arith; lines = omega arith }
 
 pub returns : goal.returns
-returns c = record { past = omega arith; counts = prefix_len_of_le _ _ (omega arith); lines = omega arith }
+returns c = record { past = omega arith; within = omega arith; lines = omega arith }
