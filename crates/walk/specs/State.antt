@@ -13,6 +13,7 @@ use Rattle.texts.specs.Texts.{Origin}
 use Rattle.verdict.specs.Bounds.{waiting_size, waiting_scope, state_fits}
 use Rattle.verdict.specs.Verdict.{Item, state_at, placed, Progress}
 use Rattle.waiting.specs.Waiting.{Waiting, terms_of, places, Part, Queue, low_of, KeptSlot}
+use Rattle.walk.specs.declared.Memory.{Memory}
 use Rattle.walk.specs.declared.WalkState.{WalkState}
 
 -- What the walk reads, and the arrays that it writes.
@@ -31,8 +32,8 @@ pub record Arrays : Type 0 where
 abbrev pub text_of : (file term : List ℕ) → Text
 text_of file term = record { file = file; term = term }
 
-abbrev pub arrays_of : (work list domains origins : List ℕ) (reach : ℕ) → Arrays
-arrays_of work list domains origins reach = record { work = work; list = list; domains = domains; origins = origins; reach = reach }
+abbrev pub arrays_of : Memory → (list : List ℕ) → Arrays
+arrays_of m list = record { work = m.work; list = list; domains = m.domains; origins = m.origins; reach = m.reach }
 
 -- A frame each of whose terms is within the limits at its place.
 pub data Sound : Frame → Type 0 where

@@ -42,6 +42,27 @@ pub struct Walked {
     pub third: usize,
 }
 
+// The term's text, and what was measured of it: the size and the scope of the term that starts at each place, and how deep the place lies.
+#[derive(Clone, Copy)]
+pub struct Measured<'a> {
+    pub term: &'a [u8],
+    pub sizes: &'a [u16],
+    pub scopes: &'a [u16],
+    pub depths: &'a [u8],
+    pub ghost known: { Known term.now sizes.now scopes.now },
+    pub ghost deep: { DepthsKnown term.now depths.now },
+}
+
+// What the walk writes, but for the list of what waits: the work array, with the frame; for each entry where its U starts there, and
+// the place of the text that this is a copy of; and how far frames were written.
+#[derive(Drop)]
+pub struct Memory {
+    pub work: Work,
+    pub domains: Starts,
+    pub origins: Starts,
+    pub reach: usize,
+}
+
 // A state (R, W, B) of the term's own text or (R, W, Y, B) of copied text, but for its frame R. The order of the fields was tried: by it
 // alone LLVM's code takes from 0.9 to 1.2 of the time for a book (docs/BENCHMARK.md).
 #[derive(Clone, Copy)]
@@ -143,29 +164,29 @@ fn push_entry(f: &mut FrameRecord, end: usize)
     f.end = end;
 }
 
-// Whether a state whose B has `size` bytes and `scope` is within the limits, after a frame of len entries whose bytes end at `end`.
-fn fits(s: WalkState, len: usize, end: usize, size: usize, scope: usize) -> bool
-    requires { (s.size < 65536) × (s.scope < 65536) × (len < 65536) × (end < 65536) × (size < 65536) × (scope < 65536) }
-    ensures { result ≡ within (end + (s.size + size)) (len + max s.scope scope) }
+// Whether a state whose B has `size` bytes and `scope` is within the limits, after the frame.
+fn fits(frame: &FrameRecord, s: WalkState, size: usize, scope: usize) -> bool
+    requires { (s.size < 65536) × (s.scope < 65536) × (frame.now.len < 65536) × (frame.now.end < 65536) × (size < 65536) × (scope < 65536) }
+    ensures { result ≡ within (frame.now.end + (s.size + size)) (frame.now.len + max s.scope scope) }
 {
-    if end + (s.size + size) > LONGEST_STATE {
+    if frame.end + (s.size + size) > LONGEST_STATE {
         return false;
     }
-    len + s.scope.max(scope) <= MOST_ABSTRACTORS
+    frame.len + s.scope.max(scope) <= MOST_ABSTRACTORS
 }
 
 // The test for 11. It was made already where what stands inside the first wagon has been checked.
-fn test(sizes: &[u16], scopes: &[u16], len: usize, end: usize, s: WalkState) -> bool
-    requires { (s.size < 65536) × (s.scope < 65536) × (len < 65536) × (end < 65536) × (s.origin < length sizes.now) × (s.origin < length scopes.now) }
-    ensures { TestAs sizes.now scopes.now len end s result }
+fn test(text: &Measured, frame: &FrameRecord, s: WalkState) -> bool
+    requires { (s.size < 65536) × (s.scope < 65536) × (frame.now.len < 65536) × (frame.now.end < 65536) × (s.origin < length text.now.sizes.now) × (s.origin < length text.now.scopes.now) }
+    ensures { TestAs text.now.sizes.now text.now.scopes.now frame.now.len frame.now.end s result }
 {
     if s.checked {
         return true;
     }
     let o = s.origin;
-    let n = usize::from(sizes[o]);
-    let y = usize::from(scopes[o]);
-    fits(s, len, end, n, y)
+    let n = usize::from(text.sizes[o]);
+    let y = usize::from(text.scopes[o]);
+    fits(frame, s, n, y)
 }
 
 // Whether what stands inside the first wagon is to be checked first.
@@ -354,24 +375,21 @@ fn stretch(reach: &mut usize, e: usize)
 
 // U, which has n bytes and stands behind the first byte of B, is written to `to`, and noted.
 fn enter_domain(
-    t: &[u8],
-    depths: &[u8],
-    work: &mut Work,
-    domains: &mut Starts,
-    origins: &mut Starts,
+    text: &Measured,
+    memory: &mut Memory,
     len: usize,
     to: usize,
     s: WalkState,
     n: usize,
 ) -> usize
-    requires { (len < most_abstractors) × (to + 1 < 65536) × (s.origin + 1 < 65536) × (s.from < 65536) × (n < 65536) × PutAsked t.now depths.now work.old s.in_term (s.from + 1) (s.from + 1 + n) (s.origin + 1) to s.shift s.cut 0 }
-    ensures { Puts 0xff (cond s.in_term t.now work.old) work.old work.new (s.from + 1) (s.from + 1 + n) s.shift s.cut 0 to result × (domains.new ≡ set domains.old len (to + 1)) × (origins.new ≡ set origins.old len (s.origin + 1)) }
+    requires { (len < most_abstractors) × (to + 1 < 65536) × (s.origin + 1 < 65536) × (s.from < 65536) × (n < 65536) × PutAsked text.now.term.now text.now.depths.now memory.old.work s.in_term (s.from + 1) (s.from + 1 + n) (s.origin + 1) to s.shift s.cut 0 }
+    ensures { Puts 0xff (cond s.in_term text.now.term.now memory.old.work) memory.old.work memory.new.work (s.from + 1) (s.from + 1 + n) s.shift s.cut 0 to result × (memory.new.domains ≡ set memory.old.domains len (to + 1)) × (memory.new.origins ≡ set memory.old.origins len (s.origin + 1)) × (memory.new.reach ≡ memory.old.reach) }
 {
     let from = s.from + 1;
     let e = put(
-        t,
-        depths,
-        work,
+        text.term,
+        text.depths,
+        &mut memory.work,
         0xff,
         s.in_term,
         from,
@@ -382,29 +400,24 @@ fn enter_domain(
         s.cut,
         0,
     );
-    domains[len] = (to + 1) as u16;
-    origins[len] = (s.origin + 1) as u16;
+    memory.domains[len] = (to + 1) as u16;
+    memory.origins[len] = (s.origin + 1) as u16;
     e
 }
 
 // [U], whose U has n bytes, while nothing waits: (iv) and (x).
 fn enter_alone(
-    t: &[u8],
-    depths: &[u8],
-    work: &mut Work,
-    domains: &mut Starts,
-    origins: &mut Starts,
-    reach: &mut usize,
-    len: usize,
-    end: usize,
+    text: &Measured,
+    memory: &mut Memory,
+    frame: &FrameRecord,
     s: WalkState,
     n: usize,
 ) -> Turned
-    requires { (s.bottom ≡ s.top) × DepthsKnown t.now depths.now × ((file list starts : List ℕ) × AbstractorAt (text_of file t.now) (arrays_of work.old list domains.old origins.old reach.old) (record_of starts len end) s n) }
-    ensures { (file list starts a b : List ℕ) → AbstractorAt (text_of file t.now) (arrays_of work.old list domains.old origins.old reach.old) (record_of starts len end) s n → Wagons (text_of file t.now) (arrays_of work.old list domains.old origins.old reach.old) (arrays_of work.new list domains.new origins.new reach.new) (record_of starts len end) s a b result }
+    requires { (s.bottom ≡ s.top) × ((file list : List ℕ) × AbstractorAt (text_of file text.now.term.now) (arrays_of memory.old list) frame.now s n) }
+    ensures { (file list a b : List ℕ) → AbstractorAt (text_of file text.now.term.now) (arrays_of memory.old list) frame.now s n → Wagons (text_of file text.now.term.now) (arrays_of memory.old list) (arrays_of memory.new list) frame.now s a b result }
 {
-    let b = enter_domain(t, depths, work, domains, origins, len, end, s, n);
-    stretch(reach, b);
+    let b = enter_domain(text, memory, frame.len, frame.end, s, n);
+    stretch(&mut memory.reach, b);
     let state = past(s, n, s.cut + 1, s.middle, s.top, s.size, s.scope);
     Turned::State {
         state,
@@ -430,45 +443,39 @@ fn start_of(v: Slot, in_term: bool) -> usize
 // [U], whose U has n bytes, takes the last of W: (v) and (xi). They are to be compared. K is read from the end of the work array, or from
 // the term if a frame was written over it, as the copied text of an inner check may, or if this one will be.
 fn enter_waiting(
-    t: &[u8],
-    sizes: &[u16],
-    depths: &[u8],
-    work: &mut Work,
+    text: &Measured,
+    memory: &mut Memory,
     list: &[u16],
-    domains: &mut Starts,
-    origins: &mut Starts,
-    reach: &mut usize,
-    len: usize,
-    end: usize,
+    frame: &FrameRecord,
     s: WalkState,
     n: usize,
 ) -> Turned
-    requires { SizesKnown t.now sizes.now × (s.top ≤ s.middle) × (s.bottom ≡ s.top → ⊥) × DepthsKnown t.now depths.now × ((file starts : List ℕ) × AbstractorAt (text_of file t.now) (arrays_of work.old list.now domains.old origins.old reach.old) (record_of starts len end) s n) }
-    ensures { (file starts a b : List ℕ) → AbstractorAt (text_of file t.now) (arrays_of work.old list.now domains.old origins.old reach.old) (record_of starts len end) s n → Wagons (text_of file t.now) (arrays_of work.old list.now domains.old origins.old reach.old) (arrays_of work.new list.now domains.new origins.new reach.new) (record_of starts len end) s a b result }
+    requires { (s.top ≤ s.middle) × (s.bottom ≡ s.top → ⊥) × ((file : List ℕ) × AbstractorAt (text_of file text.now.term.now) (arrays_of memory.old list.now) frame.now s n) }
+    ensures { (file a b : List ℕ) → AbstractorAt (text_of file text.now.term.now) (arrays_of memory.old list.now) frame.now s n → Wagons (text_of file text.now.term.now) (arrays_of memory.old list.now) (arrays_of memory.new list.now) frame.now s a b result }
 {
     let top = s.top - 1;
     let v = slot_at(list, top);
     let o = v.place + 1;
-    let k = usize::from(sizes[o]);
-    let b = end + (1 + k) + (1 + n);
-    stretch(reach, b);
-    let lost = is_lost(v.at, *reach);
+    let k = usize::from(text.sizes[o]);
+    let b = frame.end + (1 + k) + (1 + n);
+    stretch(&mut memory.reach, b);
+    let lost = is_lost(v.at, memory.reach);
     let at = start_of(v, lost) + 1;
     let a = put(
-        t,
-        depths,
-        work,
+        text.term,
+        text.depths,
+        &mut memory.work,
         0xfe,
         lost,
         at,
         at + k,
         o,
-        end,
+        frame.end,
         v.shift,
         v.cut,
-        len - v.depth,
+        frame.len - v.depth,
     );
-    let e = enter_domain(t, depths, work, domains, origins, len, a, s, n);
+    let e = enter_domain(text, memory, frame.len, a, s, n);
     let state = past(s, n, s.cut + 1, top, top, s.size - (1 + k), v.scope);
     Turned::Compare {
         state,
@@ -505,9 +512,9 @@ fn seen_index(b: u8, n: usize, c: usize) -> usize
 }
 
 // A variable of copied text, whose index is k: (viii).
-fn replace(domains: &Starts, origins: &Starts, len: usize, s: WalkState, k: usize) -> Turned
+fn replace(memory: &Memory, len: usize, s: WalkState, k: usize) -> Turned
     requires { (1 ≤ k) × (k ≤ len) × (len ≤ most_abstractors) }
-    ensures { result ≡ Turned.State (typed_of s k (get_or domains.now (len - k) 0) (get_or origins.now (len - k) 0)) None }
+    ensures { result ≡ Turned.State (typed_of s k (get_or memory.now.domains (len - k) 0) (get_or memory.now.origins (len - k) 0)) None }
 {
     let i = len - k;
     Turned::State {
@@ -515,8 +522,8 @@ fn replace(domains: &Starts, origins: &Starts, len: usize, s: WalkState, k: usiz
             own: false,
             checked: false,
             in_term: false,
-            from: usize::from(domains[i]),
-            origin: usize::from(origins[i]),
+            from: usize::from(memory.domains[i]),
+            origin: usize::from(memory.origins[i]),
             shift: k,
             cut: 0,
             ..s
@@ -527,43 +534,37 @@ fn replace(domains: &Starts, origins: &Starts, len: usize, s: WalkState, k: usiz
 
 // [U], whose U has n bytes, takes the last of Y: (xii).
 fn enter_copied(
-    t: &[u8],
-    sizes: &[u16],
-    depths: &[u8],
-    work: &mut Work,
+    text: &Measured,
+    memory: &mut Memory,
     list: &[u16],
-    domains: &mut Starts,
-    origins: &mut Starts,
-    reach: &mut usize,
-    len: usize,
-    end: usize,
+    frame: &FrameRecord,
     s: WalkState,
     n: usize,
 ) -> Turned
-    requires { SizesKnown t.now sizes.now × (s.middle < s.top) × DepthsKnown t.now depths.now × ((file starts : List ℕ) × AbstractorAt (text_of file t.now) (arrays_of work.old list.now domains.old origins.old reach.old) (record_of starts len end) s n) }
-    ensures { (file starts a b : List ℕ) → AbstractorAt (text_of file t.now) (arrays_of work.old list.now domains.old origins.old reach.old) (record_of starts len end) s n → Wagons (text_of file t.now) (arrays_of work.old list.now domains.old origins.old reach.old) (arrays_of work.new list.now domains.new origins.new reach.new) (record_of starts len end) s a b result }
+    requires { (s.middle < s.top) × ((file : List ℕ) × AbstractorAt (text_of file text.now.term.now) (arrays_of memory.old list.now) frame.now s n) }
+    ensures { (file a b : List ℕ) → AbstractorAt (text_of file text.now.term.now) (arrays_of memory.old list.now) frame.now s n → Wagons (text_of file text.now.term.now) (arrays_of memory.old list.now) (arrays_of memory.new list.now) frame.now s a b result }
 {
     let top = s.top - 1;
     let v = slot_at(list, top);
     let o = v.place + 1;
-    let k = usize::from(sizes[o]);
+    let k = usize::from(text.sizes[o]);
     let at = v.at + 1;
     let a = put(
-        t,
-        depths,
-        work,
+        text.term,
+        text.depths,
+        &mut memory.work,
         0xfe,
         false,
         at,
         at + k,
         o,
-        end,
+        frame.end,
         v.shift,
         v.cut,
-        len - v.depth,
+        frame.len - v.depth,
     );
-    let b = enter_domain(t, depths, work, domains, origins, len, a, s, n);
-    stretch(reach, b);
+    let b = enter_domain(text, memory, frame.len, a, s, n);
+    stretch(&mut memory.reach, b);
     let state = past(s, n, s.cut + 1, s.middle, top, s.size - (1 + k), v.scope);
     Turned::State {
         state,
@@ -598,55 +599,44 @@ fn completed(s: WalkState, next: usize) -> WalkState
 
 // One turn: the state is tested for 11, and replaced by its rule.
 fn turn(
-    t: &[u8],
-    sizes: &[u16],
-    scopes: &[u16],
-    depths: &[u8],
-    work: &mut Work,
+    text: &Measured,
+    memory: &mut Memory,
     list: &mut [u16],
-    domains: &mut Starts,
-    origins: &mut Starts,
-    reach: &mut usize,
-    len: usize,
-    end: usize,
+    frame: &FrameRecord,
     s: WalkState,
 ) -> Turned
-    requires { Known t.now sizes.now scopes.now × DepthsKnown t.now depths.now × ((file starts : List ℕ) × Stated (text_of file t.now) (arrays_of work.old list.old domains.old origins.old reach.old) (record_of starts len end) s) }
-    ensures { (file starts a b : List ℕ) → Stated (text_of file t.now) (arrays_of work.old list.old domains.old origins.old reach.old) (record_of starts len end) s → Turns (text_of file t.now) (arrays_of work.old list.old domains.old origins.old reach.old) (arrays_of work.new list.new domains.new origins.new reach.new) (record_of starts len end) s a b result }
+    requires { (file : List ℕ) × Stated (text_of file text.now.term.now) (arrays_of memory.old list.old) frame.now s }
+    ensures { (file a b : List ℕ) → Stated (text_of file text.now.term.now) (arrays_of memory.old list.old) frame.now s → Turns (text_of file text.now.term.now) (arrays_of memory.old list.old) (arrays_of memory.new list.new) frame.now s a b result }
 {
-    if !test(sizes, scopes, len, end, s) {
+    if !test(text, frame, s) {
         return answer(OUTGROWN, s.place, 0, 0, 0, s);
     }
-    let b = symbol(t, work, s);
+    let b = symbol(text.term, &memory.work, s);
     let o = s.origin + 1;
     match rule_of(s, b) {
         Rule::InsideFirst => Turned::Inner,
         Rule::One | Rule::Six => at_tau(list, s),
         Rule::Three | Rule::Nine => {
-            let n = usize::from(sizes[o]);
-            let y = usize::from(scopes[o]);
-            wait(t, work, list, len, s, n, y)
+            let n = usize::from(text.sizes[o]);
+            let y = usize::from(text.scopes[o]);
+            wait(text.term, &mut memory.work, list, frame.len, s, n, y)
         }
         Rule::Four | Rule::Ten => {
-            let n = usize::from(sizes[o]);
-            enter_alone(t, depths, work, domains, origins, reach, len, end, s, n)
+            let n = usize::from(text.sizes[o]);
+            enter_alone(text, memory, frame, s, n)
         }
         Rule::Five | Rule::Eleven => {
-            let n = usize::from(sizes[o]);
-            enter_waiting(
-                t, sizes, depths, work, list, domains, origins, reach, len, end, s, n,
-            )
+            let n = usize::from(text.sizes[o]);
+            enter_waiting(text, memory, list, frame, s, n)
         }
         Rule::Seven => meet(s),
         Rule::Eight => {
             let k = seen_index(b, s.shift, s.cut);
-            replace(domains, origins, len, s, k)
+            replace(memory, frame.len, s, k)
         }
         Rule::Twelve => {
-            let n = usize::from(sizes[o]);
-            enter_copied(
-                t, sizes, depths, work, list, domains, origins, reach, len, end, s, n,
-            )
+            let n = usize::from(text.sizes[o]);
+            enter_copied(text, memory, list, frame, s, n)
         }
     }
 }
@@ -656,15 +646,9 @@ fn turn(
 #[cycle(inside_term)]
 fn term(
     file: &[u8],
-    t: &[u8],
-    sizes: &[u16],
-    scopes: &[u16],
-    depths: &[u8],
-    work: &mut Work,
+    text: &Measured,
+    memory: &mut Memory,
     list: &mut [u16],
-    domains: &mut Starts,
-    origins: &mut Starts,
-    reach: &mut usize,
     left: &mut Letters,
     right: &mut Letters,
     frame: &FrameRecord,
@@ -673,8 +657,8 @@ fn term(
     next: usize,
     comparisons: usize,
 ) -> Walked
-    requires { Known t.now sizes.now scopes.now × Stated (text_of file.now t.now) (arrays_of work.old list.old domains.old origins.old reach.old) frame.now (start_of place top next comparisons) × Buffers left.old right.old × DepthsKnown t.now depths.now }
-    ensures { Checks (text_of file.now t.now) (arrays_of work.old list.old domains.old origins.old reach.old) (arrays_of work.new list.new domains.new origins.new reach.new) frame.now (start_of place top next comparisons) left.new right.new result × Buffers left.new right.new }
+    requires { Stated (text_of file.now text.now.term.now) (arrays_of memory.old list.old) frame.now (start_of place top next comparisons) × Buffers left.old right.old }
+    ensures { Checks (text_of file.now text.now.term.now) (arrays_of memory.old list.old) (arrays_of memory.new list.new) frame.now (start_of place top next comparisons) left.new right.new result × Buffers left.new right.new }
 {
     let mut f = *frame;
     let mut z = WalkState {
@@ -695,15 +679,10 @@ fn term(
         comparisons,
     };
     loop {
-        match turn(
-            t, sizes, scopes, depths, work, list, domains, origins, reach, f.len, f.end, z,
-        ) {
+        match turn(text, memory, list, &f, z) {
             Turned::Answer(walked) => return walked,
             Turned::Inner => {
-                let q = inside(
-                    file, t, sizes, scopes, depths, work, list, domains, origins, reach, left,
-                    right, &f, z,
-                );
+                let q = inside(file, text, memory, list, left, right, &f, z);
                 if q.number != ACCEPTED {
                     return q;
                 }
@@ -715,7 +694,7 @@ fn term(
                 middle,
                 end,
             } => {
-                let q = compare(file, z.next, work, &f, middle, end, left, right);
+                let q = compare(file, z.next, &memory.work, &f, middle, end, left, right);
                 let stops = q.number != ACCEPTED;
                 if stops {
                     return Walked {
@@ -745,34 +724,22 @@ fn term(
 #[cycle(inside_term)]
 fn inside(
     file: &[u8],
-    t: &[u8],
-    sizes: &[u16],
-    scopes: &[u16],
-    depths: &[u8],
-    work: &mut Work,
+    text: &Measured,
+    memory: &mut Memory,
     list: &mut [u16],
-    domains: &mut Starts,
-    origins: &mut Starts,
-    reach: &mut usize,
     left: &mut Letters,
     right: &mut Letters,
     frame: &FrameRecord,
     s: WalkState,
 ) -> Walked
-    requires { Known t.now sizes.now scopes.now × InnerAt (text_of file.now t.now) (arrays_of work.old list.old domains.old origins.old reach.old) frame.now s × Buffers left.old right.old × DepthsKnown t.now depths.now }
-    ensures { Checks (text_of file.now t.now) (arrays_of work.old list.old domains.old origins.old reach.old) (arrays_of work.new list.new domains.new origins.new reach.new) frame.now (inner_of s) left.new right.new result × Buffers left.new right.new }
+    requires { InnerAt (text_of file.now text.now.term.now) (arrays_of memory.old list.old) frame.now s × Buffers left.old right.old }
+    ensures { Checks (text_of file.now text.now.term.now) (arrays_of memory.old list.old) (arrays_of memory.new list.new) frame.now (inner_of s) left.new right.new result × Buffers left.new right.new }
 {
     term(
         file,
-        t,
-        sizes,
-        scopes,
-        depths,
-        work,
+        text,
+        memory,
         list,
-        domains,
-        origins,
-        reach,
         left,
         right,
         frame,
@@ -798,31 +765,21 @@ fn whole(
     requires { Walkable file.now t.now at × (length t.now ≤ length sizes.old) × (length t.now ≤ length scopes.old) × Buffers left.old right.old × (length t.now ≤ length depths.old) }
     ensures { WholeAnswer file.now t.now at (length list.old) left.new right.new result × Buffers left.new right.new }
 {
-    let mut work: Work = [0; LONGEST_STATE];
-    let mut domains: Starts = [0; MOST_ABSTRACTORS];
-    let mut origins: Starts = [0; MOST_ABSTRACTORS];
-    let mut reach: usize = 0;
+    let mut memory = Memory {
+        work: [0; LONGEST_STATE],
+        domains: [0; MOST_ABSTRACTORS],
+        origins: [0; MOST_ABSTRACTORS],
+        reach: 0,
+    };
     measure(t, left, sizes, scopes, depths);
-    let f = empty_frame();
-    term(
-        file,
-        t,
+    let text = Measured {
+        term: t,
         sizes,
         scopes,
         depths,
-        &mut work,
-        list,
-        &mut domains,
-        &mut origins,
-        &mut reach,
-        left,
-        right,
-        &f,
-        0,
-        0,
-        at,
-        0,
-    )
+    };
+    let f = empty_frame();
+    term(file, &text, &mut memory, list, left, right, &f, 0, 0, at, 0)
 }
 
 // The whole of a short term, in arrays of its own: it does not spend its time on clearing large ones. They may be too short for what

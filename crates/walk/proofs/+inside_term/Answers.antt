@@ -6,64 +6,64 @@ use Rattle.walk.proofs.Loop.{settles_answer, settles_inner, compare_due, compare
 use Rattle.walk.proofs.+inside_term.Goals as goal
 
 pub inside-overflow_add-s : goal.inside-overflow_add-s
-inside-overflow_add-s t c = omega (arith, inner_place c.requires.1)
+inside-overflow_add-s t c = omega (arith, inner_place c.requires.0)
 
 pub inside-term-requires : goal.inside-term-requires
-inside-term-requires t c = (omega (arith, c.decreases), (c.requires.0, inner_stated c.requires.1, c.requires.2, c.requires.3))
+inside-term-requires t c = (omega (arith, c.decreases), (inner_stated c.requires.0, c.requires.1))
 
 pub inside-returns : goal.inside-returns
 inside-returns t c = c.term.ensures
 
 pub term-loop-walked-init : goal.term-loop-walked-init
-term-loop-walked-init t c = (c.requires.0, going_start c.requires.1, c.requires.2, c.requires.3)
+term-loop-walked-init t c = (going_start c.requires.0, c.requires.1)
 
 pub term-turn-requires : goal.term-turn-requires
-term-turn-requires t c = (c.loop-walked.invariant.0, c.loop-walked.invariant.3, (_, _, now_stated c.loop-walked.invariant.1))
+term-turn-requires t c = (_, now_stated c.loop-walked.invariant.0)
 
 pub term-returns-in-Answer : goal.term-returns-in-Answer
-term-returns-in-Answer t c = (going_done c.loop-walked.invariant.1 (settles_answer (c.in-Answer.ensures _ _ _ _ (now_stated c.loop-walked.invariant.1))), c.loop-walked.invariant.2)
+term-returns-in-Answer t c = (going_done c.loop-walked.invariant.0 (settles_answer (c.in-Answer.ensures _ _ _ (now_stated c.loop-walked.invariant.0))), c.loop-walked.invariant.1)
 
 pub term-inside-q-requires : goal.term-inside-q-requires
-term-inside-q-requires t c = (let q = inside_falls c.loop-walked.invariant.1 in omega (arith, c.decreases), (c.loop-walked.invariant.0, inner_due c.loop-walked.invariant.1 (settles_inner (c.in-Inner.ensures _ _ c.args.file.now c.args.file.now (now_stated c.loop-walked.invariant.1))), c.loop-walked.invariant.2, c.loop-walked.invariant.3))
+term-inside-q-requires t c = (let q = inside_falls c.loop-walked.invariant.0 in omega (arith, c.decreases), (inner_due c.loop-walked.invariant.0 (settles_inner (c.in-Inner.ensures _ c.args.file.now c.args.file.now (now_stated c.loop-walked.invariant.0))), c.loop-walked.invariant.1))
 
 pub term-returns-then-q-ne-ACCEPTED : goal.term-returns-then-q-ne-ACCEPTED
-term-returns-then-q-ne-ACCEPTED t c = (inner_stops c.loop-walked.invariant.1 (settles_inner (c.in-Inner.ensures _ _ c.args.file.now c.args.file.now (now_stated c.loop-walked.invariant.1))) c.inside-q.ensures.0 c.if-q-ne-ACCEPTED.true, c.inside-q.ensures.1)
+term-returns-then-q-ne-ACCEPTED t c = (inner_stops c.loop-walked.invariant.0 (settles_inner (c.in-Inner.ensures _ c.args.file.now c.args.file.now (now_stated c.loop-walked.invariant.0))) c.inside-q.ensures.0 c.if-q-ne-ACCEPTED.true, c.inside-q.ensures.1)
 
 pub term-loop-walked-smaller-in-Inner : goal.term-loop-walked-smaller-in-Inner
-term-loop-walked-smaller-in-Inner t c = rw c.checked-z.ensures (resumed_falls c.loop-walked.invariant.1 (settles_inner (c.in-Inner.ensures _ _ c.args.file.now c.args.file.now (now_stated c.loop-walked.invariant.1))) c.inside-q.ensures.0 c.if-q-ne-ACCEPTED.false)
+term-loop-walked-smaller-in-Inner t c = rw c.checked-z.ensures (resumed_falls c.loop-walked.invariant.0 (settles_inner (c.in-Inner.ensures _ c.args.file.now c.args.file.now (now_stated c.loop-walked.invariant.0))) c.inside-q.ensures.0 c.if-q-ne-ACCEPTED.false)
 
 pub term-loop-walked-preserved-in-Inner : goal.term-loop-walked-preserved-in-Inner
-term-loop-walked-preserved-in-Inner t c = (c.loop-walked.invariant.0, rw c.checked-z.ensures (going_resumed c.loop-walked.invariant.1 (settles_inner (c.in-Inner.ensures _ _ c.args.file.now c.args.file.now (now_stated c.loop-walked.invariant.1))) c.inside-q.ensures.0 c.if-q-ne-ACCEPTED.false), c.inside-q.ensures.1, c.loop-walked.invariant.3)
+term-loop-walked-preserved-in-Inner t c = (rw c.checked-z.ensures (going_resumed c.loop-walked.invariant.0 (settles_inner (c.in-Inner.ensures _ c.args.file.now c.args.file.now (now_stated c.loop-walked.invariant.0))) c.inside-q.ensures.0 c.if-q-ne-ACCEPTED.false), c.inside-q.ensures.1)
 
 pub term-compare-q-requires : goal.term-compare-q-requires
-term-compare-q-requires t c = (compare_due (c.in-Compare.ensures _ _ c.args.file.now c.args.file.now (now_stated c.loop-walked.invariant.1)) (now_stated c.loop-walked.invariant.1), c.loop-walked.invariant.2)
+term-compare-q-requires t c = (compare_due (c.in-Compare.ensures _ c.args.file.now c.args.file.now (now_stated c.loop-walked.invariant.0)) (now_stated c.loop-walked.invariant.0), c.loop-walked.invariant.1)
 
 pub term-returns-then-stops : goal.term-returns-then-stops
-term-returns-then-stops t c = (compared_stops c.loop-walked.invariant.1 (c.in-Compare.ensures _ _ c.args.file.now c.args.file.now (now_stated c.loop-walked.invariant.1)) c.compare-q.ensures.0 c.if-stops.true, c.compare-q.ensures.1)
+term-returns-then-stops t c = (compared_stops c.loop-walked.invariant.0 (c.in-Compare.ensures _ c.args.file.now c.args.file.now (now_stated c.loop-walked.invariant.0)) c.compare-q.ensures.0 c.if-stops.true, c.compare-q.ensures.1)
 
 pub term-completed-z-requires : goal.term-completed-z-requires
-term-completed-z-requires t c = compared_few (compared_goes c.loop-walked.invariant.1 (c.in-Compare.ensures _ _ c.args.file.now c.args.file.now (now_stated c.loop-walked.invariant.1)) c.compare-q.ensures.0 c.if-stops.false) refl
+term-completed-z-requires t c = compared_few (compared_goes c.loop-walked.invariant.0 (c.in-Compare.ensures _ c.args.file.now c.args.file.now (now_stated c.loop-walked.invariant.0)) c.compare-q.ensures.0 c.if-stops.false) refl
 
 pub term-push_entry-requires : goal.term-push_entry-requires
-term-push_entry-requires t c = on_bounds c.loop-walked.invariant.1 (compared_goes c.loop-walked.invariant.1 (c.in-Compare.ensures _ _ c.args.file.now c.args.file.now (now_stated c.loop-walked.invariant.1)) c.compare-q.ensures.0 c.if-stops.false)
+term-push_entry-requires t c = on_bounds c.loop-walked.invariant.0 (compared_goes c.loop-walked.invariant.0 (c.in-Compare.ensures _ c.args.file.now c.args.file.now (now_stated c.loop-walked.invariant.0)) c.compare-q.ensures.0 c.if-stops.false)
 
 pub term-loop-walked-smaller-in-Compare : goal.term-loop-walked-smaller-in-Compare
-term-loop-walked-smaller-in-Compare t c = rw (c.completed-z.ensures, c.push_entry.ensures) (compared_falls c.loop-walked.invariant.1 (c.in-Compare.ensures _ _ c.args.file.now c.args.file.now (now_stated c.loop-walked.invariant.1)) c.compare-q.ensures.0 c.if-stops.false)
+term-loop-walked-smaller-in-Compare t c = rw (c.completed-z.ensures, c.push_entry.ensures) (compared_falls c.loop-walked.invariant.0 (c.in-Compare.ensures _ c.args.file.now c.args.file.now (now_stated c.loop-walked.invariant.0)) c.compare-q.ensures.0 c.if-stops.false)
 
 pub term-loop-walked-preserved-in-Compare : goal.term-loop-walked-preserved-in-Compare
-term-loop-walked-preserved-in-Compare t c = (c.loop-walked.invariant.0, rw (c.completed-z.ensures, c.push_entry.ensures) (compared_goes c.loop-walked.invariant.1 (c.in-Compare.ensures _ _ c.args.file.now c.args.file.now (now_stated c.loop-walked.invariant.1)) c.compare-q.ensures.0 c.if-stops.false), c.compare-q.ensures.1, c.loop-walked.invariant.3)
+term-loop-walked-preserved-in-Compare t c = (rw (c.completed-z.ensures, c.push_entry.ensures) (compared_goes c.loop-walked.invariant.0 (c.in-Compare.ensures _ c.args.file.now c.args.file.now (now_stated c.loop-walked.invariant.0)) c.compare-q.ensures.0 c.if-stops.false), c.compare-q.ensures.1)
 
 pub term-push_entry-requires-in-Some : goal.term-push_entry-requires-in-Some
-term-push_entry-requires-in-Some t c = on_bounds c.loop-walked.invariant.1 (goes_to c.loop-walked.invariant.1 (c.in-State.ensures _ _ c.args.file.now c.args.file.now (now_stated c.loop-walked.invariant.1)) (ap (λ o. with_entry o c.loop-walked.f) c.in-Some.is))
+term-push_entry-requires-in-Some t c = on_bounds c.loop-walked.invariant.0 (goes_to c.loop-walked.invariant.0 (c.in-State.ensures _ c.args.file.now c.args.file.now (now_stated c.loop-walked.invariant.0)) (ap (λ o. with_entry o c.loop-walked.f) c.in-Some.is))
 
 pub term-loop-walked-smaller-in-Some : goal.term-loop-walked-smaller-in-Some
-term-loop-walked-smaller-in-Some t c = rw c.push_entry-in-Some.ensures (falls_to c.loop-walked.invariant.1 (c.in-State.ensures _ _ c.args.file.now c.args.file.now (now_stated c.loop-walked.invariant.1)) (ap (λ o. with_entry o c.loop-walked.f) c.in-Some.is))
+term-loop-walked-smaller-in-Some t c = rw c.push_entry-in-Some.ensures (falls_to c.loop-walked.invariant.0 (c.in-State.ensures _ c.args.file.now c.args.file.now (now_stated c.loop-walked.invariant.0)) (ap (λ o. with_entry o c.loop-walked.f) c.in-Some.is))
 
 pub term-loop-walked-preserved-in-Some : goal.term-loop-walked-preserved-in-Some
-term-loop-walked-preserved-in-Some t c = (c.loop-walked.invariant.0, rw c.push_entry-in-Some.ensures (goes_to c.loop-walked.invariant.1 (c.in-State.ensures _ _ c.args.file.now c.args.file.now (now_stated c.loop-walked.invariant.1)) (ap (λ o. with_entry o c.loop-walked.f) c.in-Some.is)), c.loop-walked.invariant.2, c.loop-walked.invariant.3)
+term-loop-walked-preserved-in-Some t c = (rw c.push_entry-in-Some.ensures (goes_to c.loop-walked.invariant.0 (c.in-State.ensures _ c.args.file.now c.args.file.now (now_stated c.loop-walked.invariant.0)) (ap (λ o. with_entry o c.loop-walked.f) c.in-Some.is)), c.loop-walked.invariant.1)
 
 pub term-loop-walked-smaller : goal.term-loop-walked-smaller
-term-loop-walked-smaller t c = falls_to c.loop-walked.invariant.1 (c.in-State.ensures _ _ c.args.file.now c.args.file.now (now_stated c.loop-walked.invariant.1)) (ap (λ o. with_entry o c.loop-walked.f) c.in_default.is)
+term-loop-walked-smaller t c = falls_to c.loop-walked.invariant.0 (c.in-State.ensures _ c.args.file.now c.args.file.now (now_stated c.loop-walked.invariant.0)) (ap (λ o. with_entry o c.loop-walked.f) c.in_default.is)
 
 pub term-loop-walked-preserved : goal.term-loop-walked-preserved
-term-loop-walked-preserved t c = (c.loop-walked.invariant.0, goes_to c.loop-walked.invariant.1 (c.in-State.ensures _ _ c.args.file.now c.args.file.now (now_stated c.loop-walked.invariant.1)) (ap (λ o. with_entry o c.loop-walked.f) c.in_default.is), c.loop-walked.invariant.2, c.loop-walked.invariant.3)
+term-loop-walked-preserved t c = (goes_to c.loop-walked.invariant.0 (c.in-State.ensures _ c.args.file.now c.args.file.now (now_stated c.loop-walked.invariant.0)) (ap (λ o. with_entry o c.loop-walked.f) c.in_default.is), c.loop-walked.invariant.1)
