@@ -6,6 +6,8 @@ use mathlib.Core.Option.{Option, none, some, map}
 use mathlib.Core.List.{List, [], ◌∷◌}
 use native.Mathlib.Omega.{arith}
 use lib.ListN.{length, get_or}
+use Rattle.std.specs.Prelude.{Some, None}
+use Rattle.std.specs.Prelude.{Option as Answer}
 use Rattle.calculus.specs.Terms.{Term, var, size, lift, lift_all}
 use Rattle.calculus.specs.Frames.{Entry, pair, domain, Frame, ◌▹◌, entry_at}
 use Rattle.calculus.specs.Steps.{couples, entry_of, unmatched}
@@ -16,8 +18,8 @@ use Rattle.code.proofs.RoundTrip.{odd}
 use Rattle.letters.specs.Letters.{letter, applicator, abstractor, symbol_of, depth_of, height_of, Lies}
 use Rattle.letters.proofs.Letters.{first, first_small, symbol_letter, depth_letter, height_letter, head_of, lies_end}
 use Rattle.bodies.specs.Ways.{Way, here, in_argument, past_argument, in_domain, past_domain, frame_at, depth_at}
-use Rattle.bodies.specs.Finding.{BinderAt, Findable, Found, partner_from, Matable, Mated, DomainLies, BindsDomain, EntryLies, lies_single, lies_pair, Binds, BoundInside, SomeBound, Finds}
-use Rattle.bodies.specs.declared.Binder.{Binder}
+use Rattle.bodies.specs.Finding.{BinderAt, Findable, Found, partner_from, DomainLies, BindsDomain, EntryLies, lies_single, lies_pair, Binds, BoundInside, SomeBound, Finds}
+use Rattle.bodies.specs.declared.Part.{Part}
 use Rattle.bodies.proofs.Ways.{way_within, means_outside, domain_entry}
 use Rattle.bodies.proofs.Extents.{Parts, app_parts, abs_parts, Above, above}
 use Rattle.bodies.proofs.Finding.{less_high, at_abstractor, at_partner_lem, at_applicator, all_higher}
@@ -28,22 +30,22 @@ nth [] n = none
 nth (K ∷ M) zero = some K
 nth (K ∷ M) (suc n) = nth M n
 
-data Spot (s : List ℕ) (h at d : ℕ) : Option Term → ℕ × ℕ → Type 0 where
-  nobody : Spot s h at d none (0, 0)
-  somebody : {a e c : ℕ} {K : Term} → e ≤ at → c ≤ d → get_or s a 0 ≡ letter applicator c h → Lies s (suc a) e c (suc h) K → c + scope K ≤ most_abstractors → Spot s h at d (some (lift (d - c) 0 K)) (suc a, e)
+data Spot (s : List ℕ) (h at d : ℕ) : Option Term → Answer Part → Type 0 where
+  nobody : Spot s h at d none None
+  somebody : {a e c : ℕ} {K : Term} → e ≤ at → c ≤ d → get_or s a 0 ≡ letter applicator c h → Lies s (suc a) e c (suc h) K → c + scope K ≤ most_abstractors → Spot s h at d (some (lift (d - c) 0 K)) (Some (record { start = suc a; end = e }))
 
 record Behind (s : List ℕ) (h at d : ℕ) (M : List Term) : Type 0 where
   all : (n : ℕ) → Spot s h at d (nth M n) (partner_from s h at n at)
 
-spot_none : {s : List ℕ} {h at d : ℕ} {r : ℕ × ℕ} → Spot s h at d none r → r.0 ≡ 0
+spot_none : {s : List ℕ} {h at d : ℕ} {r : Answer Part} → Spot s h at d none r → r ≡ None
 spot_none nobody = refl
 
-record Somebody (s : List ℕ) (h at d : ℕ) (L : Term) (r : ℕ × ℕ) : Type 0 where
+record Somebody (s : List ℕ) (h at d : ℕ) (L : Term) (r : Answer Part) : Type 0 where
   a : ℕ
   e : ℕ
   c : ℕ
   K : Term
-  found_at : r ≡ (suc a, e)
+  found_at : r ≡ Some (record { start = suc a; end = e })
   lifted : L ≡ lift (d - c) 0 K
   ends : e ≤ at
   less : c ≤ d
@@ -51,17 +53,17 @@ record Somebody (s : List ℕ) (h at d : ℕ) (L : Term) (r : ℕ × ℕ) : Type
   lies : Lies s (suc a) e c (suc h) K
   few : c + scope K ≤ most_abstractors
 
-spot_some : {s : List ℕ} {h at d : ℕ} {L : Term} {r : ℕ × ℕ} → Spot s h at d (some L) r → Somebody s h at d L r
+spot_some : {s : List ℕ} {h at d : ℕ} {L : Term} {r : Answer Part} → Spot s h at d (some L) r → Somebody s h at d L r
 spot_some {h = h} (somebody {a} {e} {c} {K} x y z l f) = record { a = a; e = e; c = c; K = K; found_at = refl; lifted = refl; ends = x; less = y; deep = rw z (depth_letter applicator c h (omega arith) (omega arith)); lies = l; few = f }
 
-spot_later : {s : List ℕ} {h at at' d : ℕ} {o : Option Term} {r : ℕ × ℕ} → at ≤ at' → Spot s h at d o r → Spot s h at' d o r
+spot_later : {s : List ℕ} {h at at' d : ℕ} {o : Option Term} {r : Answer Part} → at ≤ at' → Spot s h at d o r → Spot s h at' d o r
 spot_later l nobody = nobody
 spot_later l (somebody {e = i} a b c e f) = somebody {e = i} (omega arith) b c e f
 
 lifted_more : (d c : ℕ) (K : Term) → c ≤ d → lift 1 0 (lift (d - c) 0 K) ≡ lift (suc d - c) 0 K
 lifted_more d c K l = lift_fusion 1 0 (d - c) 0 K (omega arith) (omega arith) ∙ ap (λ n. lift n 0 K) (omega arith)
 
-spot_deeper : {s : List ℕ} {h at at' d : ℕ} {o : Option Term} {r : ℕ × ℕ} → at ≤ at' → Spot s h at d o r → Spot s h at' (suc d) (map (lift 1 0) o) r
+spot_deeper : {s : List ℕ} {h at at' d : ℕ} {o : Option Term} {r : Answer Part} → at ≤ at' → Spot s h at d o r → Spot s h at' (suc d) (map (lift 1 0) o) r
 spot_deeper l nobody = nobody
 spot_deeper {d = d} l (somebody {e = i} {c = c} {K = K} a b x e f) = rw (lifted_more d c K b) (somebody {e = i} {c = c} (omega arith) (omega arith) x e f)
 
@@ -108,7 +110,7 @@ module _ {s : List ℕ} {from e d h d_b x : ℕ} {K B : Term} (P : Parts s from 
     where
       go : (n : ℕ) → Spot s h P.middle d (nth (K ∷ M) n) (partner_from s h P.middle n P.middle)
       go zero = rw (over 0 ∙ at_partner_lem s h from 0 P.middle height_from (symbol_from ∙ q) refl)
-          (subst (λ y. Spot s h P.middle d (some y) (suc from, P.middle)) (ap (λ n. lift n 0 K) (omega arith) ∙ lift_zero 0 K)
+          (subst (λ y. Spot s h P.middle d (some y) (Some (record { start = suc from; end = P.middle }))) (ap (λ n. lift n 0 K) (omega arith) ∙ lift_zero 0 K)
           (somebody (omega arith) (omega arith) (rw q at P.head) P.inner b))
       go (suc n) = rw (over (suc n) ∙ at_applicator s h from (suc n) P.middle height_from (symbol_from ∙ q) (λ z. omega arith) ∙ ap (λ y. partner_from s h from y from) (one_less n)) (spot_later later (g.all n))
 
@@ -236,28 +238,23 @@ module _ {s : List ℕ} {n p k d : ℕ} {t : Term} {w : Way t p (var k)} (g : Bo
     unfolding domain
     found_domain = record { entry = entry_of binds.M binds.U; means = binds.means; lies = subst (DomainLies s p d q) (domain_entry binds.M binds.U) domain_lies }
 
-    module _ {r : Binder} (m : Mated s q r) where
+    module _ {r : Answer Part} (m : r ≡ partner_from s (height_of (get_or s q 0)) q 0 q) where
       height_is : height_of (get_or s q 0) ≡ binds.h
       height_is = ap (λ x. height_of (get_or s x 0)) q_is ∙ rw binds.letter_there (height_letter abstractor binds.d binds.h (omega arith) (omega (arith, binds.few)))
 
       -- the search goes where the descent says
-      searched : partner_from s (height_of (get_or s q 0)) q 0 q ≡ partner_from s binds.h binds.at 0 binds.at
-      searched = rw (height_is, q_is) refl
-
-      own_domain_lem : DomainLies s p d r.abstractor binds.U
-      own_domain_lem = subst (λ x. DomainLies s p d x binds.U) (sym m.abstractor_is) domain_lies
+      searched : r ≡ partner_from s binds.h binds.at 0 binds.at
+      searched = m ∙ rw (height_is, q_is) refl
 
       at_before : binds.at ≤ p
       at_before = omega (arith, lies_end binds.domain_there, binds.before)
 
       entry_lies : (M : List Term) → Spot s binds.h binds.at binds.d (nth M 0) (partner_from s binds.h binds.at 0 binds.at) → EntryLies s p d r (entry_of M binds.U)
       unfolding entry_of nth
-      entry_lies [] v = lies_single (m.start_is ∙ ap (λ x. x.0) searched ∙ spot_none v) own_domain_lem
+      entry_lies [] v = rw (searched ∙ spot_none v) (lies_single domain_lies)
       entry_lies (K ∷ M) v = let z = spot_some v in
-          let start : r.applied ≡ suc z.a = m.start_is ∙ ap (λ x. x.0) (searched ∙ z.found_at) in
-          let end : r.end ≡ z.e = m.end_is ∙ ap (λ x. x.1) (searched ∙ z.found_at) in
-          subst (λ y. EntryLies s p d r (pair y binds.U)) (ap (λ x. lift (x - z.c) 0 z.K) (sym depth_is) ∙ sym z.lifted)
-          (lies_pair {c = z.c} {low = suc binds.h} {K = z.K} (omega arith) (ap (λ x. depth_of (get_or s x 0)) (omega arith) ∙ z.deep) (omega (arith, z.less, depth_is)) (rw (start, end) z.lies) z.few (omega (arith, z.ends, at_before)) own_domain_lem)
+          rw (searched ∙ z.found_at) (subst (λ y. EntryLies s p d (Some (record { start = suc z.a; end = z.e })) (pair y binds.U)) (ap (λ x. lift (x - z.c) 0 z.K) (sym depth_is) ∙ sym z.lifted)
+          (lies_pair {c = z.c} {low = suc binds.h} {k = record { start = suc z.a; end = z.e }} {K = z.K} (omega arith) (ap (λ x. depth_of (get_or s x 0)) (omega arith) ∙ z.deep) (omega (arith, z.less, depth_is)) z.lies z.few (omega (arith, z.ends, at_before)) domain_lies))
 
       found_binds : Binds s p d meaning r
       found_binds = record { entry = entry_of binds.M binds.U; means = binds.means; parts = entry_lies binds.M (binds.behind.all 0) }
@@ -267,11 +264,8 @@ module _ {s : List ℕ} {p d : ℕ} (g : SomeBound s p d) where
   findable = record { array = g.array; inside = inside_array g.bound g.array; h = (binds g.bound).h; rest = (binds g.bound).rest; at = (binds g.bound).at; binder = binder_at g.bound }
 
   module _ {q : ℕ} (e : Found s p d q) where
-    pub matable : Matable s q
-    matable = record {
-      array = g.array;
-      inside = omega (arith, q_is g.bound e, lies_end (binds g.bound).domain_there, (binds g.bound).before, inside_array g.bound g.array);
-    }
+    pub abstractor_inside : q < longest_term
+    abstractor_inside = omega (arith, q_is g.bound e, lies_end (binds g.bound).domain_there, (binds g.bound).before, inside_array g.bound g.array)
 
-    pub finds : {r : Binder} → Mated s q r → Finds s p d r
+    pub finds : {r : Answer Part} → r ≡ partner_from s (height_of (get_or s q 0)) q 0 q → Finds s p d r
     finds m = record { all = λ n k t w b. found_binds b e m }

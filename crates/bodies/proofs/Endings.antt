@@ -1,6 +1,6 @@
 -- The end of a term by heights.
 -- Assumes nothing.
-use Prim.Native.Nat.{ℕ, ◌+◌, ◌≤◌}
+use Prim.Native.Nat.{ℕ, ◌+◌, ◌≤◌, min}
 use mathlib.Core.Path.{◌≡◌}
 use mathlib.Core.List.{List}
 use native.Mathlib.Omega.{arith}
@@ -20,9 +20,9 @@ ending_next {j = j} w g = record {
   low = λ l. absurd (omega arith);
 }
 
--- Four letters at once: x is at most each of them, and high enough.
-pub ending_four : {s : List ℕ} {i h j x y z v : ℕ} → Ending s j i h j → v ≡ height_of x → h ≤ v → (x ≤ y) × (x ≤ z) → (y ≤ get_or s j 0) × (y ≤ get_or s (j + 1) 0)
-    → (z ≤ get_or s (j + 2) 0) × (z ≤ get_or s (j + 3) 0) → Ending s (j + 4) i h (j + 4)
+-- Four letters at once: x, the least of them, is high enough.
+pub ending_four : {s : List ℕ} {i h j x y z v : ℕ} → Ending s j i h j → v ≡ height_of x → h ≤ v → y ≡ min (get_or s j 0) (get_or s (j + 1) 0) → z ≡ min (get_or s (j + 2) 0) (get_or s (j + 3) 0)
+    → x ≡ min y z → Ending s (j + 4) i h (j + 4)
 ending_four {j = j} w e g a b c =
     let two : j + 1 + 1 ≡ j + 2 = omega arith in
     let three : j + 2 + 1 ≡ j + 3 = omega arith in

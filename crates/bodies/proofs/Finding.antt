@@ -1,17 +1,19 @@
 -- The loops that find a variable's abstractor and the applicator that matches it.
 -- Assumes nothing.
 use Prim.Native.Nat.{ℕ, zero, suc, ◌+◌, ◌-◌, ◌≤◌, ◌<◌}
-use mathlib.Core.Path.{◌≡◌, refl, ap, sym, ◌∙◌}
+use mathlib.Core.Path.{◌≡◌, ap, sym, ◌∙◌}
 use mathlib.Core.List.{List}
 use native.Mathlib.Omega.{arith}
 use native.Mathlib.Nat.{add-zero, add-suc}
 use native.Mathlib.Numerals.{add-one}
 use lib.ListN.{get_or}
 use borrow.Author.Tests.{lt-ltb, le-ltb, eq-eqb, ne_eqb}
+use Rattle.std.specs.Prelude.{Option, Some, None}
 use Rattle.calculus.proofs.Lift.{lo, hi, cmp}
 use Rattle.letters.specs.Letters.{letter, applicator, abstractor, symbol_of, depth_of, height_of}
 use Rattle.letters.proofs.Letters.{depth_letter, height_letter}
-use Rattle.bodies.specs.Finding.{BinderAt, Found, partner_from, Mated}
+use Rattle.bodies.specs.declared.Part.{Part}
+use Rattle.bodies.specs.Finding.{BinderAt, Found, partner_from}
 
 -- ---- The abstractor: m is the least height from place q up to p.
 pub record Scanning (s : List ℕ) (p d q m : ℕ) : Type 0 where
@@ -54,7 +56,7 @@ module _ {s : List ℕ} {p d q m : ℕ} (c : Scanning s p d q m) (l : 0 < q) whe
 
 -- ---- The applicator: what the letter before place suc i says.
 module _ (s : List ℕ) (h i n next : ℕ) where
-  pub less_high : height_of (get_or s i 0) < h → partner_from s h (suc i) n next ≡ (0, 0)
+  pub less_high : height_of (get_or s i 0) < h → partner_from s h (suc i) n next ≡ None
   unfolding partner_from
   less_high l = rw (lt-ltb (height_of (get_or s i 0)) h l)
 
@@ -68,7 +70,7 @@ module _ (s : List ℕ) (h i n next : ℕ) where
     at_abstractor z = rw (le-ltb (height_of (get_or s i 0)) h (omega arith), eq-eqb (height_of (get_or s i 0)) h e, ne_eqb (symbol_of (get_or s i 0)) applicator z)
 
     module _ (a : symbol_of (get_or s i 0) ≡ applicator) where
-      pub at_partner_lem : n ≡ 0 → partner_from s h (suc i) n next ≡ (suc i, next)
+      pub at_partner_lem : n ≡ 0 → partner_from s h (suc i) n next ≡ Some (record { start = suc i; end = next })
       unfolding partner_from
       at_partner_lem z = rw (le-ltb (height_of (get_or s i 0)) h (omega arith), eq-eqb (height_of (get_or s i 0)) h e, eq-eqb (symbol_of (get_or s i 0)) applicator a, eq-eqb n 0 z)
 
@@ -88,23 +90,20 @@ pub record Searching (s : List ℕ) (q h i n next : ℕ) : Type 0 where
   pub same : partner_from s h i n next ≡ partner_from s h q 0 q
 
 module _ {s : List ℕ} {q h i n next : ℕ} (c : Searching s q h i n next) where
-  mated : {a e : ℕ} → partner_from s h i n next ≡ (a, e) → Mated s q (record { applied = a; end = e; abstractor = q })
-  mated z = record {
-    start_is = ap (λ x. x.0) (sym z ∙ c.same) ∙ ap (λ x. (partner_from s x q 0 q).0) c.here;
-    end_is = ap (λ x. x.1) (sym z ∙ c.same) ∙ ap (λ x. (partner_from s x q 0 q).1) c.here;
-    abstractor_is = refl;
-  }
+  found_now : {r : Option Part} → partner_from s h i n next ≡ r → r ≡ partner_from s (height_of (get_or s q 0)) q 0 q
+  found_now z = sym z ∙ c.same ∙ ap (λ x. partner_from s x q 0 q) c.here
 
-  pub search_end : i ≤ 0 → Mated s q (record { applied = 0; end = 0; abstractor = q })
+  pub search_end : i ≤ 0 → None ≡ partner_from s (height_of (get_or s q 0)) q 0 q
   unfolding partner_from
-  search_end l = let z : i ≡ 0 = omega arith in mated (ap (λ x. partner_from s h x n next) z)
+  search_end l = let z : i ≡ 0 = omega arith in found_now (ap (λ x. partner_from s h x n next) z)
 
+  -- A turn, at the letter before.
   module _ (l : 0 < i) where
-    before_i : {r : ℕ × ℕ} → partner_from s h (suc (i - 1)) n next ≡ r → partner_from s h i n next ≡ r
+    before_i : {r : Option Part} → partner_from s h (suc (i - 1)) n next ≡ r → partner_from s h i n next ≡ r
     before_i z = ap (λ x. partner_from s h x n next) (omega arith) ∙ z
 
-    pub search_outside : height_of (get_or s (i - 1) 0) < h → Mated s q (record { applied = 0; end = 0; abstractor = q })
-    search_outside g = mated (before_i (less_high s h (i - 1) n next g))
+    pub search_outside : height_of (get_or s (i - 1) 0) < h → None ≡ partner_from s (height_of (get_or s q 0)) q 0 q
+    search_outside g = found_now (before_i (less_high s h (i - 1) n next g))
 
     pub search_inside : h < height_of (get_or s (i - 1) 0) → Searching s q h (i - 1) n next
     search_inside g = record { here = c.here; left = omega (arith, c.left); same = sym (before_i (higher s h (i - 1) n next g)) ∙ c.same }
@@ -114,8 +113,8 @@ module _ {s : List ℕ} {q h i n next : ℕ} (c : Searching s q h i n next) wher
       search_abstractor z = record { here = c.here; left = omega (arith, c.left); same = ap (λ x. partner_from s h (i - 1) x (i - 1)) (add-one n) ∙ sym (before_i (at_abstractor s h (i - 1) n next e z)) ∙ c.same }
 
       module _ (a : symbol_of (get_or s (i - 1) 0) ≡ applicator) where
-        pub search_partner : n ≡ 0 → Mated s q (record { applied = i - 1 + 1; end = next; abstractor = q })
-        search_partner z = mated (before_i (at_partner_lem s h (i - 1) n next e a z) ∙ ap (λ x. (x, next)) (sym (add-one (i - 1))))
+        pub search_partner : n ≡ 0 → Some (record { start = i - 1 + 1; end = next }) ≡ partner_from s (height_of (get_or s q 0)) q 0 q
+        search_partner z = found_now (before_i (at_partner_lem s h (i - 1) n next e a z) ∙ ap (λ x. Some (record { start = x; end = next })) (sym (add-one (i - 1))))
 
         pub search_applicator : (n ≡ 0 → ⊥) → Searching s q h (i - 1) (n - 1) (i - 1)
         search_applicator z = record { here = c.here; left = omega (arith, c.left); same = sym (before_i (at_applicator s h (i - 1) n next e a z)) ∙ c.same }

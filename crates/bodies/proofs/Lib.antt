@@ -2,7 +2,7 @@
 -- Assumes nothing.
 pub mod Ways
 pub mod Extents
-pub mod Mapping
+pub mod Storing
 pub mod Lifting
 pub mod Endings
 pub mod Finding

@@ -1,21 +1,24 @@
 -- The letters of a lifted term, and the deepest letter of a term.
 -- Assumes nothing.
 use Prim.Native.Nat.{ℕ, suc, ◌+◌, ◌-◌, ◌*◌, ◌≤◌, ◌<◌, max}
-use mathlib.Core.Path.{◌≡◌, refl, ap, ap₂, subst, ◌∙◌}
+use mathlib.Core.Path.{◌≡◌, refl, ap, ap₂, sym, ◌∙◌}
 use mathlib.Core.Logic.{◌⊎◌, inl, inr}
-use mathlib.Core.List.{List, [], ◌∷◌, ◌++◌, map, map-append}
+use mathlib.Core.List.{List, [], ◌∷◌, ◌++◌, map, map-append, append-nil}
 use native.Mathlib.Omega.{arith}
 use native.Mathlib.Nat.{add-zero, add-suc, suc-add}
-use lib.ListN.{get_or}
+use lib.ListN.{length, get_or}
+use Rattle.std.proofs.lemmas.List.{take_rest}
 use borrow.Author.Tests.{lt-ltb, le-ltb}
 use Rattle.calculus.specs.Terms.{Term, lift}
 use Rattle.calculus.proofs.Lift.{lo, hi, cmp, index_low, index_high}
 use Rattle.code.specs.Code.{Coded, coded_tau, coded_var, coded_app, coded_abs}
 use Rattle.code.specs.Scope.{scope}
+use Rattle.code.specs.Limits.{most_abstractors}
 use Rattle.parts.specs.Parts.{part}
+use Rattle.parts.proofs.Cut.{length_part}
 use Rattle.letters.specs.Letters.{letter, letters, applicator, abstractor, symbol_of, depth_of, height_of, Lies}
 use Rattle.letters.proofs.Letters.{letter_parts, symbol_letter, depth_letter, height_letter, lies_taken}
-use Rattle.bodies.specs.Moving.{lifted_symbol, lifted_letter, Mapped, LiftableLetter, TermLiftable, Lifts, DeepestIs}
+use Rattle.bodies.specs.Moving.{lifted_symbol, lifted_letter, LiftableLetter, LettersLiftable, LettersLifted, DeepestIs}
 use Rattle.bodies.proofs.Extents.{above, under, scope_under, first_height}
 
 -- ---- The letters of a term.
@@ -57,11 +60,20 @@ module _ (c k h low x : ℕ) (l : LiftableLetter c k h low x) where
   unfolding lifted_letter lifted_symbol letter
   lifted_raised a b = rw (lt-ltb (symbol_of x) applicator a, index_high k (depth_of x - c) (symbol_of x) b) (omega (arith, letter_parts x, l.low_enough))
 
-pub liftable_letter : {s : List ℕ} {from e c k h low i : ℕ} → TermLiftable s from e c k h → low ≡ height_of (get_or s from 0) → from ≤ i → i < e → LiftableLetter c k h low (get_or s i 0)
-liftable_letter {i = i} g w l n =
+-- A term that lies in an array lies in its part alone.
+pub lies_part : {s : List ℕ} {from e d h : ℕ} {t : Term} → Lies s from e d h t → e ≤ length s → Lies (part s from e) 0 (length (part s from e)) d h t
+lies_part {s} {from} {e} {d} {h} {t} l m = record {
+  rest = [];
+  letters_there = lies_taken l ∙ sym (append-nil (letters d h t));
+  coded = l.coded;
+  place = omega (arith, length_part s from e m, l.place);
+}
+
+pub liftable_here : {s : List ℕ} {c k h low : ℕ} → LettersLiftable s c k h → low ≡ height_of (get_or s 0 0) → (i : ℕ) → i < length s → LiftableLetter c k h low (get_or s i 0)
+liftable_here g w i n =
     let v = first_height g.lies (omega (arith, g.few)) in
-    let a = above g.term (omega (arith, g.few)) g.lies i l n in
-    let u = under g.term (omega (arith, g.few)) g.lies i l n in
+    let a = above g.term (omega (arith, g.few)) g.lies i (omega arith) n in
+    let u = under g.term (omega (arith, g.few)) g.lies i (omega arith) n in
     record {
       index = λ y. omega (arith, u.index y, g.few);
       least = a.deep;
@@ -70,26 +82,29 @@ liftable_letter {i = i} g w l n =
       high = omega (arith, u.high, g.high);
     }
 
-pub lifts : {r s s' : List ℕ} {from e c k h at low : ℕ} → Mapped (lifted_letter c k h low) r s s' from e at → low ≡ height_of (get_or r from 0) → Lifts r s s' from e c k h at
-lifts {r} {s} {s'} {from} {e} {c} {k} {h} {at} m q =
-    record { all = λ low t l b. subst (λ x. Mapped (lifted_letter c k h x) r s s' from e at) (q ∙ first_height l (omega arith)) m; same_length = m.same_length }
+pub letters_lifted : {s s' : List ℕ} {c k h low : ℕ} → low ≡ height_of (get_or s 0 0) → s' ≡ map (lifted_letter c k h low) s → LettersLifted s s' c k h
+letters_lifted {s} {s'} {c} {k} {h} q m = record { all = λ low t l b. m ∙ ap (λ x. map (lifted_letter c k h x) s) (q ∙ first_height l (omega arith)) }
 
--- ---- The deepest letter: `most` is the least that no letter from `from` up to i is deeper than.
-pub record Deepening (s : List ℕ) (from i most : ℕ) : Type 0 where
-  pub passed : (j : ℕ) → from ≤ j → j < i → depth_of (get_or s j 0) ≤ most
-  pub least : (x : ℕ) → ((j : ℕ) → from ≤ j → j < i → depth_of (get_or s j 0) ≤ x) → most ≤ x
+-- As the letters of the lifted term.
+pub lifted_term : {s s' : List ℕ} {c low k h : ℕ} {t : Term} → LettersLifted s s' c k h → Lies s 0 (length s) c low t → c + scope t + k ≤ most_abstractors → s' ≡ letters (c + k) h (lift k 0 t)
+lifted_term {s} {s'} {c} {low} {k} {h} j l f = j.all low _ l f ∙ ap (map (lifted_letter c k h low)) (sym (take_rest s 0) ∙ lies_taken l) ∙ lifted_whole c low k h l.coded (omega arith)
 
-pub deepening_next : {s : List ℕ} {from i most most' : ℕ} → Deepening s from i most → from ≤ i → most' ≡ max most (depth_of (get_or s i 0)) → Deepening s from (i + 1) most'
-deepening_next {s} {from} {i} {most} {most'} w a q = record {
-  passed = λ j x y. elim (cmp i j) [
+-- ---- The deepest letter: `most` is the least that none of the first i letters is deeper than.
+pub record Deepening (s : List ℕ) (i most : ℕ) : Type 0 where
+  pub passed : (j : ℕ) → j < i → depth_of (get_or s j 0) ≤ most
+  pub least : (x : ℕ) → ((j : ℕ) → j < i → depth_of (get_or s j 0) ≤ x) → most ≤ x
+
+pub deepening_next : {s : List ℕ} {i most most' : ℕ} → Deepening s i most → most' ≡ max most (depth_of (get_or s i 0)) → Deepening s (i + 1) most'
+deepening_next {s} {i} {most} {most'} w q = record {
+  passed = λ j x. elim (cmp i j) [
     | lo u ↦ let e : j ≡ i = omega arith in rw e (omega arith)
-    | hi u ↦ omega (arith, w.passed j x u)
+    | hi u ↦ omega (arith, w.passed j u)
   ];
-  least = λ x f. omega (arith, w.least x (λ j u v. f j u (omega arith)), f i a (omega arith));
+  least = λ x f. omega (arith, w.least x (λ j u. f j (omega arith)), f i (omega arith));
 }
 
-pub deepest_is : {s : List ℕ} {from e i most : ℕ} → Deepening s from i most → i ≡ e → DeepestIs s from e most
+pub deepest_is : {s : List ℕ} {i most : ℕ} → Deepening s i most → i ≡ length s → DeepestIs s most
 deepest_is w q = record {
   all = λ c low t l b. let n : c + scope t < 1024 = omega arith in
-      omega (arith, scope_under t n l (λ j x y. w.passed j x (omega arith)), w.least (c + scope t) (λ j x y. (under t n l j x (omega arith)).deep));
+      omega (arith, scope_under t n l (λ j x y. w.passed j (omega arith)), w.least (c + scope t) (λ j x. (under t n l j (omega arith) (omega arith)).deep));
 }

@@ -2,13 +2,14 @@
 -- Assumes nothing.
 use Prim.Native.Nat.{ℕ, suc, ◌+◌, ◌-◌, ◌≤◌, ◌<◌}
 use mathlib.Core.Path.{◌≡◌, refl, ap, sym, subst, ◌∙◌}
-use mathlib.Core.Bool.{true, false}
 use mathlib.Core.Option.{Option, none, some, map}
 use mathlib.Core.List.{List, []}
 use native.Mathlib.Omega.{arith}
 use native.Mathlib.Numerals.{add-one}
 use lib.ListN.{length, get_or}
-use Rattle.std.specs.Prelude.{Err}
+use Rattle.std.specs.Prelude.{Err, Some, None}
+use Rattle.std.specs.Prelude.{Option as Answer}
+use Rattle.std.proofs.lemmas.Option.{none-some, same_Some}
 use Rattle.calculus.specs.Terms.{Term, tau, var, app, abs, lift}
 use Rattle.calculus.specs.Frames.{Entry, single, pair, domain, Frame, entry_at}
 use Rattle.calculus.specs.Types.{type, type_of_var}
@@ -19,7 +20,6 @@ use Rattle.calculus.proofs.Ren.{no_some, some_inj}
 use Rattle.code.specs.Limits.{longest_term, most_abstractors}
 use Rattle.code.specs.Code.{Coded, coded_var}
 use Rattle.code.specs.Scope.{scope}
-use Rattle.code.specs.Claims.{Stands}
 use Rattle.frames.specs.declared.FrameRecord.{FrameRecord}
 use Rattle.frames.specs.declared.Span.{Span}
 use Rattle.frames.specs.Stored.{EntryParts, span_single, span_pair, Looked, Holding}
@@ -32,7 +32,8 @@ use Rattle.bodies.specs.Held.{Held, SomeHeld, InBody, Form, SteppedAs, step_refu
 use Rattle.bodies.specs.Finding.{Found, DomainLies, BindsDomain, EntryLies, lies_single, lies_pair, Binds, BoundInside, SomeBound, Finds}
 use Rattle.bodies.specs.Moving.{Ending}
 use Rattle.bodies.specs.Putting.{SourceIs, in_frame, in_body, Puttable, PutsTerm}
-use Rattle.bodies.specs.declared.Binder.{Binder}
+use Rattle.bodies.specs.declared.Part.{Part}
+use Rattle.bodies.specs.declared.Holder.TheVariants.{TheFrame, TheBody}
 use Rattle.bodies.specs.declared.Reason.TheVariants.{WrongSymbol, NoPartner}
 use Rattle.bodies.specs.declared.StepError.TheVariants.{NotPossible}
 use Rattle.bodies.specs.declared.Source.{Source}
@@ -205,34 +206,34 @@ module _ {W : List ℕ} {f : FrameRecord} {s : List ℕ} {n p k d : ℕ} (e : d 
   some_bound g q a b = let y = g.some_held.held in let w = variable_way y g.inside q a b in
       record { array = y.array; n = n; k = k; term = g.some_held.term; way = w; bound = bound_there y w }
 
-  module _ {r : Binder} (c : Finds s p (d - k) r) where
+  module _ {r : Answer Part} (c : Finds s p (d - k) r) where
     binds : {R : Frame} {t : Term} (y : Held W f s n R t) (w : Way t p (var k)) → Binds s p (d - k) (λ R. entry_at (frame_at R [] w) k) r
     binds {t = t} y w = c.all n k t w (bound_there y w)
 
-    pub alone_inside : r.applied ≡ 0 → Alone W f s n p k
+    pub alone_inside : r ≡ None → Alone W f s n p k
     unfolding partner
-    alone_inside z = record { all = λ {R} {t} y w. let b = binds y w in (b.entry, b.means R, go b.entry b.parts) }
+    alone_inside z = record { all = λ {R} {t} y w. let b = binds y w in (b.entry, b.means R, go b.entry (subst (λ r. EntryLies s p (d - k) r b.entry) z b.parts)) }
       where
-        go : (o : Entry) → EntryLies s p (d - k) r o → partner o ≡ none
-        go o (lies_single x u) = refl
-        go o (lies_pair x q i l v j u) = absurd (omega arith)
+        go : (o : Entry) → EntryLies s p (d - k) None o → partner o ≡ none
+        go o (lies_single u) = refl
 
-    module _ (z : r.applied ≡ 0 → ⊥) where
+    module _ {K₀ : Part} (z : r ≡ Some K₀) where
+      pair_lies : {R : Frame} {t : Term} (y : Held W f s n R t) (w : Way t p (var k)) → EntryLies s p (d - k) (Some K₀) (binds y w).entry
+      pair_lies y w = let b = binds y w in subst (λ r. EntryLies s p (d - k) r b.entry) z b.parts
+
       -- the applicator of the couple
-      pub applicator_there : InBody W f s n p → k ≡ symbol_of (get_or s p 0) → 1 ≤ k → k < applicator → (1 ≤ r.applied) × (r.applied ≤ p) × (depth_of (get_or s (r.applied - 1) 0) ≤ d)
-      applicator_there g q a b = let y = g.some_held.held in go (binds y (variable_way y g.inside q a b)).parts
+      pub applicator_there : InBody W f s n p → k ≡ symbol_of (get_or s p 0) → 1 ≤ k → k < applicator → (1 ≤ K₀.start) × (K₀.start ≤ p) × (depth_of (get_or s (K₀.start - 1) 0) ≤ d)
+      applicator_there g q a b = let y = g.some_held.held in go (pair_lies y (variable_way y g.inside q a b))
         where
-          go : {o : Entry} → EntryLies s p (d - k) r o → (1 ≤ r.applied) × (r.applied ≤ p) × (depth_of (get_or s (r.applied - 1) 0) ≤ d)
-          go (lies_single x u) = absurd (z x)
+          go : {o : Entry} → EntryLies s p (d - k) (Some K₀) o → (1 ≤ K₀.start) × (K₀.start ≤ p) × (depth_of (get_or s (K₀.start - 1) 0) ≤ d)
           go (lies_pair x q i l v j u) = (x, omega (arith, lies_end l), omega arith)
 
-      pub partner_inside : {c₀ : ℕ} → c₀ ≡ depth_of (get_or s (r.applied - 1) 0) → Supplies W f s n p k (record { framed = false; start = r.applied; end = r.end; lift = d - c₀ }) partner
+      pub partner_inside : {c₀ : ℕ} → c₀ ≡ depth_of (get_or s (K₀.start - 1) 0) → Supplies W f s n p k (record { holder = TheBody; start = K₀.start; end = K₀.end; lift = d - c₀ }) partner
       unfolding partner
-      partner_inside {c₀} c₀_is = record { all = λ {R} {t} y w. let b = binds y w in go R w y b.entry (b.means R) b.parts }
+      partner_inside {c₀} c₀_is = record { all = λ {R} {t} y w. let b = binds y w in go R w y b.entry (b.means R) (pair_lies y w) }
         where
-          go : (R : Frame) {t : Term} (w : Way t p (var k)) (y : Held W f s n R t) (o : Entry) → entry_at (frame_at R [] w) k ≡ some o → EntryLies s p (d - k) r o
-              → Supplied W s p (record { framed = false; start = r.applied; end = r.end; lift = d - c₀ }) partner R w
-          go R w y o m (lies_single x u) = absurd (z x)
+          go : (R : Frame) {t : Term} (w : Way t p (var k)) (y : Held W f s n R t) (o : Entry) → entry_at (frame_at R [] w) k ≡ some o → EntryLies s p (d - k) (Some K₀) o
+              → Supplied W s p (record { holder = TheBody; start = K₀.start; end = K₀.end; lift = d - c₀ }) partner R w
           go R w y o m (lies_pair {c = c₁} {low = low} {K = L} {U = U} x q h l v j u) = record {
             entry = pair (lift (d - k - c₁) 0 L) U;
             meant = lift (d - k - c₁) 0 L;
@@ -264,7 +265,7 @@ module _ {W : List ℕ} {f : FrameRecord} {s : List ℕ} {n p k d : ℕ} (e : d 
           let m_is : m ≡ u.rest = ending_is j ends in
           record { low = suc u.high; lies = rw (m_is, add-one a) u.lies; few = u.few; before = omega (arith, u.before) }
 
-      pub domain_inside : p < n → Supplies W f s n p k (record { framed = false; start = a + 1; end = m; lift = k }) own_domain
+      pub domain_inside : p < n → Supplies W f s n p k (record { holder = TheBody; start = a + 1; end = m; lift = k }) own_domain
       unfolding own_domain
       domain_inside l = record {
         all = λ {R} {t} y w. let b = binds_domain y w in let x = domain_of y l b.lies in
@@ -284,29 +285,31 @@ module _ {W : List ℕ} {f : FrameRecord} {s : List ℕ} {n p k d : ℕ} (e : d 
       (record { frame = g.some_held.frame; stored = y.stored }, omega arith, omega (arith, a.deep, index_there a, stored_depth y.stored))
 
   module _ {m : Span} (c : Looked W f (k - d) m) where
-    pub alone_outside : m.applied ≡ 0 → Alone W f s n p k
+    pub alone_outside : m.applied ≡ None → Alone W f s n p k
     unfolding partner
     alone_outside z = record { all = λ {R} {t} y w. let b = c.found R y.stored in (b.0, means_there y w ∙ b.1, go b.0 b.2) }
       where
         go : (o : Entry) → EntryParts W m o → partner o ≡ none
         go o (span_single x u) = refl
-        go o (span_pair x j l u) = absurd (omega arith)
+        go o (span_pair x j l u) = absurd (none-some _ (sym z ∙ x))
 
-    pub partner_outside : (m.applied ≡ 0 → ⊥) → Supplies W f s n p k (record { framed = true; start = m.applied; end = m.domain - 1; lift = k }) partner
-    unfolding partner
-    partner_outside z = record { all = λ {R} {t} y w. let b = c.found R y.stored in go R w y b.0 (means_there y w ∙ b.1) b.2 }
-      where
-        go : (R : Frame) {t : Term} (w : Way t p (var k)) (y : Held W f s n R t) (o : Entry) → entry_at (frame_at R [] w) k ≡ some o → EntryParts W m o → Supplied W s p (record { framed = true; start = m.applied; end = m.domain - 1; lift = k }) partner R w
-        go R w y o v (span_single x u) = absurd (z x)
-        go R w y (pair K U) v (span_pair x j l u) = record { entry = pair K U; meant = K; term = K; means = v; chosen = refl; lifted = refl; source = in_frame refl (few y w) (subst (λ b. Stands W m.applied b K) (omega arith) l) }
+    module _ {a : ℕ} (z : m.applied ≡ Some a) where
+      pub partner_outside : Supplies W f s n p k (record { holder = TheFrame; start = a; end = m.domain - 1; lift = k }) partner
+      unfolding partner
+      partner_outside = record { all = λ {R} {t} y w. let b = c.found R y.stored in go R w y b.0 (means_there y w ∙ b.1) b.2 }
+        where
+          go : (R : Frame) {t : Term} (w : Way t p (var k)) (y : Held W f s n R t) (o : Entry) → entry_at (frame_at R [] w) k ≡ some o → EntryParts W m o → Supplied W s p (record { holder = TheFrame; start = a; end = m.domain - 1; lift = k }) partner R w
+          go R w y o v (span_single x u) = absurd (none-some _ (sym x ∙ z))
+          go R w y (pair K U) v (span_pair {k = i} {m = j} x o l u) =
+              record { entry = pair K U; meant = K; term = K; means = v; chosen = refl; lifted = refl; source = in_frame refl (few y w) (let e : j ≡ m.domain - 1 = omega arith in rw (e, same_Some i a (sym x ∙ z)) at l) }
 
-    pub domain_outside : Supplies W f s n p k (record { framed = true; start = m.domain; end = m.end; lift = k }) own_domain
+      pub domain_positive : InBody W f s n p → 1 ≤ m.domain
+      domain_positive g = let b = c.found g.some_held.frame g.some_held.held.stored in go b.0 b.2
+        where
+          go : (o : Entry) → EntryParts W m o → 1 ≤ m.domain
+          go o (span_single x u) = absurd (none-some _ (sym x ∙ z))
+          go o (span_pair x j l u) = omega arith
+
+    pub domain_outside : Supplies W f s n p k (record { holder = TheFrame; start = m.domain; end = m.end; lift = k }) own_domain
     unfolding own_domain
     domain_outside = record { all = λ {R} {t} y w. let b = c.found R y.stored in record { entry = b.0; meant = domain b.0; term = domain b.0; means = means_there y w ∙ b.1; chosen = refl; lifted = refl; source = in_frame refl (few y w) (span_domain b.2) } }
-
-    pub domain_positive : InBody W f s n p → (m.applied ≡ 0 → ⊥) → 1 ≤ m.domain
-    domain_positive g z = let b = c.found g.some_held.frame g.some_held.held.stored in go b.0 b.2
-      where
-        go : (o : Entry) → EntryParts W m o → 1 ≤ m.domain
-        go o (span_single x u) = absurd (z x)
-        go o (span_pair x j l u) = omega arith

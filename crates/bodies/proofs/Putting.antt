@@ -1,13 +1,16 @@
 -- A term in a variable's place: the laws of `write_source` and `put`.
 -- Assumes nothing.
 use Prim.Native.Nat.{ℕ, ◌+◌, ◌-◌, ◌≤◌, ◌<◌}
-use mathlib.Core.Path.{◌≡◌, refl, ap, sym, subst, ◌∙◌}
+use mathlib.Core.Path.{◌≡◌, refl, ap, ap₂, sym, subst, ◌∙◌}
 use mathlib.Core.Bool.{Bool, true, false}
 use mathlib.Core.Logic.{◌⊎◌, inl, inr, ⊎_elim}
-use mathlib.Core.List.{List}
+use mathlib.Core.List.{List, ◌++◌}
 use native.Mathlib.Omega.{arith}
-use lib.ListN.{length, get_or}
-use lib.Seq.{sets}
+use lib.ListN.{length, get_or, take, drop, length-drop, length-append}
+use lib.Seq.{length-take-le, take-append-le, drop-append-le}
+use lib.Seq.{sets, length-sets}
+use Rattle.parts.proofs.Stores.{sets_append}
+use Rattle.bodies.proofs.Storing.{stored}
 use Rattle.std.specs.Prelude.{Ok, Err}
 use Rattle.calculus.specs.Terms.{Term, var, size, Closed, lift}
 use Rattle.calculus.specs.Frames.{Frame, depth}
@@ -25,15 +28,15 @@ use Rattle.letters.specs.Clauses as reading
 use Rattle.letters.proofs.Letters.{length_letters, lies_end}
 use Rattle.bodies.specs.Ways.{Way, put, depth_at, height_at}
 use Rattle.bodies.specs.Held.{Held, FormAs}
-use Rattle.bodies.specs.Moving.{PartLiftable, Lifts, SomeLies, DeepestIs}
+use borrow.Rule.Slice.PartMut.{put_mid}
+use Rattle.bodies.specs.Moving.{LettersLiftable, LettersLifted, SomeLies, DeepestIs}
 use Rattle.bodies.specs.Putting.{SourceIs, in_frame, in_body, Sourced, SourceWritten, Puttable, PutsTerm}
+use Rattle.bodies.specs.declared.Holder.TheVariants.{TheFrame, TheBody}
 use Rattle.bodies.specs.declared.Source.{Source}
 use Rattle.bodies.specs.declared.StepError.TheVariants.{Outgrown}
-use Rattle.bodies.proofs.Lifting.{lifted_lies}
+use Rattle.parts.proofs.Cut.{length_part}
+use Rattle.bodies.proofs.Lifting.{lies_part, lifted_term}
 use Rattle.bodies.proofs.Places.{At, at_way, over_long, too_deep, put_held, splice, lies_before}
-
-neither : {A : Type 0} {b : Bool} → b ≡ true → b ≡ false → A
-neither q r = let z : ◌≡◌ {A = ℕ} 0 1 = cc in absurd (omega arith)
 
 -- ---- Where a source stands, and how long it is.
 module _ {w s : List ℕ} {p d : ℕ} {x : Source} {K : Term} where
@@ -54,11 +57,11 @@ module _ {w s : List ℕ} {p d h room : ℕ} {x : Source} (g : Sourced w s p d h
   abbrev k : ℕ
   k = x.lift
 
-  pub source_readable : x.framed ≡ true → Readable w x.start x.end k d h room s p
+  pub source_readable : x.holder ≡ TheFrame → Readable w x.start x.end k d h room s p
   source_readable f = go g.source
     where
       go : SourceIs w s p d x g.term → Readable w x.start x.end k d h room s p
-      go (in_body q e l b o) = neither f q
+      go (in_body q e l b o) = cc
       go (in_frame q m i) = record {
         standing = record { term = g.term; stands = i; short = omega (arith, g.high) };
         index = m;
@@ -68,15 +71,15 @@ module _ {w s : List ℕ} {p d h room : ℕ} {x : Source} (g : Sourced w s p d h
         fits = g.fits;
       }
 
-  pub source_read : {s' : List ℕ} {r : Bool} → x.framed ≡ true → Reads w x.start x.end k d h room s s' p r → SourceWritten w s s' p d h room x r
+  pub source_read : {s' : List ℕ} {r : Bool} → x.holder ≡ TheFrame → Reads w x.start x.end k d h room s s' p r → SourceWritten w s s' p d h room x r
   source_read {s'} {r} f c = record { all = λ K i. go K i; same_length = c.same_length }
     where
       go : (K : Term) → SourceIs w s p d x K → ReadAs k d h room s s' p K r
       go K (in_frame q m i) = c.all K i
-      go K (in_body q e l b o) = neither f q
+      go K (in_body q e l b o) = cc
 
   -- among the body's letters
-  module _ (f : x.framed ≡ false) where
+  module _ (f : x.holder ≡ TheBody) where
     record Inside (K : Term) : Type 0 where
       low : ℕ
       depth_is : d - k + k ≡ d
@@ -85,7 +88,7 @@ module _ {w s : List ℕ} {p d h room : ℕ} {x : Source} (g : Sourced w s p d h
       before : x.end ≤ p
 
     inside : {K : Term} → SourceIs w s p d x K → Inside K
-    inside (in_frame q m i) = neither q f
+    inside (in_frame q m i) = cc
     inside {K} (in_body {c} {low} q e l b o) =
         let z : c ≡ d - k = omega arith in
         record { low = low; depth_is = omega arith; lies = rw z at l; few = omega arith; before = o }
@@ -93,31 +96,53 @@ module _ {w s : List ℕ} {p d h room : ℕ} {x : Source} (g : Sourced w s p d h
     pub source_lower : (k ≤ d) × (d - k < 4294967296) × (room < 4294967296) × (k < 4294967296) × (h < 4294967296)
     source_lower = (omega (arith, (inside g.source).depth_is), omega (arith, g.deep), omega (arith, g.deep), omega (arith, (inside g.source).depth_is, g.deep), omega (arith, g.high, source_end g.source))
 
-    pub source_some : SomeLies s x.start x.end
-    source_some = let i = inside g.source in record { array = g.array; c = d - k; low = i.low; term = g.term; lies = i.lies; few = i.few }
+    pub source_order : (x.start < x.end) × (x.end ≤ p) × (p < length s) × (x.end - x.start ≤ length s - p)
+    source_order = (omega (arith, source_end g.source), (inside g.source).before, omega (arith, g.fits, source_end g.source, g.array), omega (arith, g.fits, g.array))
 
-    module _ {m : ℕ} (c : DeepestIs s x.start x.end m) where
-      pub source_deep : d - k + room < m → SourceWritten w s s p d h room x false
-      source_deep l = record { all = λ K i. let z = inside i in reading.too_deep (omega (arith, c.all (d - k) z.low K z.lies z.few)); same_length = refl }
+    -- the array in two: the letters before p, and those from p on
+    module _ (front back : List ℕ) (e : s ≡ front ++ back) (n : length front ≡ p) {term : List ℕ} (v : term ≡ part front x.start x.end) where
+      term_is : term ≡ part s x.start x.end
+      term_is = v ∙ sym (rw (e, drop-append-le x.start front back (omega (arith, n, source_order)), take-append-le (x.end - x.start) (drop x.start front) back (rw (length-drop x.start front) (omega (arith, n, source_order)))) refl)
 
-      module _ (l : m ≤ d - k + room) where
-        shallow : {K : Term} (i : SourceIs w s p d x K) → scope K ≤ room
-        shallow {K} i = let z = inside i in omega (arith, c.all (d - k) z.low K z.lies z.few)
+      long : length term ≡ x.end - x.start
+      long = ap length v ∙ length_part front x.start x.end (omega (arith, n, source_order))
 
-        few_lifted : {K : Term} (i : SourceIs w s p d x K) → d - k + scope K + k ≤ most_abstractors
-        few_lifted i = omega (arith, shallow i, (inside i).depth_is, g.deep)
+      pub source_room : length (take (x.end - x.start) back) ≡ length term
+      source_room = length-take-le (x.end - x.start) back (omega (arith, source_order, ap length e, length-append front back, n)) ∙ sym long
 
-        pub source_liftable : PartLiftable s x.start x.end (d - k) k h p
-        source_liftable = let i = inside g.source in
-            record { liftable = record { array = g.array; low = i.low; term = g.term; lies = i.lies; few = few_lifted g.source; high = g.high }; past = i.before; fits = g.fits }
+      lies_here : {K : Term} (i : SourceIs w s p d x K) → Lies term 0 (length term) (d - k) (inside i).low K
+      lies_here {K} i = rw term_is (lies_part (inside i).lies (omega (arith, source_order)))
 
-        pub source_lifted : {s' : List ℕ} → Lifts s s s' x.start x.end (d - k) k h p → SourceWritten w s s' p d h room x true
-        source_lifted {s'} j = record { all = λ K i. go K i; same_length = j.same_length }
-          where
-            go : (K : Term) → SourceIs w s p d x K → ReadAs k d h room s s' p K true
-            go K i = let z = inside i in read_all
-                ((j.all z.low K z.lies (few_lifted i)).letters_there ∙ ap (sets s p) (lifted_lies k h z.lies (omega (arith, z.few)) ∙ ap (λ y. letters y h (lift k 0 K)) z.depth_is))
-                (shallow i)
+      pub source_some : SomeLies term
+      source_some = let i = inside g.source in record { c = d - k; low = i.low; term = g.term; lies = lies_here g.source; few = i.few }
+
+      module _ {m : ℕ} (c : DeepestIs term m) where
+        pub source_deep : d - k + room < m → SourceWritten w s (front ++ back) p d h room x false
+        source_deep l = subst (λ z. SourceWritten w s z p d h room x false) e (record { all = λ K i. let z = inside i in reading.too_deep (omega (arith, c.all (d - k) z.low K (lies_here i) z.few)); same_length = refl })
+
+        module _ (l : m ≤ d - k + room) where
+          shallow : {K : Term} (i : SourceIs w s p d x K) → scope K ≤ room
+          shallow {K} i = let z = inside i in omega (arith, c.all (d - k) z.low K (lies_here i) z.few)
+
+          few_lifted : {K : Term} (i : SourceIs w s p d x K) → d - k + scope K + k ≤ most_abstractors
+          few_lifted i = omega (arith, shallow i, (inside i).depth_is, g.deep)
+
+          pub source_liftable : LettersLiftable term (d - k) k h
+          source_liftable = let i = inside g.source in
+              record { low = i.low; term = g.term; lies = lies_here g.source; few = few_lifted g.source; high = omega (arith, g.high, long, source_order) }
+
+          module _ {out : List ℕ} (j : LettersLifted term out (d - k) k h) where
+            lifted_now : {K : Term} (i : SourceIs w s p d x K) → out ≡ letters d h (lift k 0 K)
+            lifted_now {K} i = lifted_term j (lies_here i) (few_lifted i) ∙ ap (λ y. letters y h (lift k 0 K)) (inside i).depth_is
+
+            out_long : length out ≡ x.end - x.start
+            out_long = ap length (lifted_now g.source) ∙ length_letters d h (lift k 0 g.term) ∙ omega (arith, size_lift k 0 g.term, source_size g.source)
+
+            stored_now : front ++ put_mid 0 (x.end - x.start) back out ≡ sets s p out
+            stored_now = ap (front ++◌) (stored back out 0 (x.end - x.start) out_long (omega (arith, source_order, ap length e, length-append front back, n))) ∙ sym (sets_append out front back 0) ∙ ap₂ (λ a b. sets a b out) (sym e) (omega (arith, n))
+
+            pub source_lifted : SourceWritten w s (front ++ put_mid 0 (x.end - x.start) back out) p d h room x true
+            source_lifted = record { all = λ K i. read_all (stored_now ∙ ap (sets s p) (lifted_now i)) (shallow i); same_length = ap length stored_now ∙ length-sets s p out }
 
 -- ---- `put`.
 module _ {w : List ℕ} {f : FrameRecord} {s : List ℕ} {n p : ℕ} {x : Source} (g : Puttable w f s n p x) where
@@ -140,15 +165,12 @@ module _ {w : List ℕ} {f : FrameRecord} {s : List ℕ} {n p : ℕ} {x : Source
     put_room = omega (arith, at.shallow, deep_is g.held g.way, stored_depth g.held.stored)
 
     module _ {h : ℕ} (b : h ≡ height_of (get_or s p 0)) (l : n - 1 + (x.end - x.start) ≤ longest_term)
-        {s₁ : List ℕ} (c : Copied s (p + 1) n s s₁ (p + 1 + (x.end - x.start - 1))) where
-      moved : Copied s (p + 1) n s s₁ (p + (x.end - x.start))
-      moved = subst (Copied s (p + 1) n s s₁) (omega (arith, put_bounds)) c
-
+        {s₁ : List ℕ} (c : Copied s (p + 1) n s s₁ (p + (x.end - x.start))) where
       high_is : {R : Frame} {t : Term} {j : ℕ} (y : Held w f s n R t) (way : Way t p (var j)) → h ≡ height_at 0 way
       high_is y way = b ∙ (at_way y way).high
 
       source_now : {R : Frame} {t : Term} {j : ℕ} {K : Term} (y : Held w f s n R t) (way : Way t p (var j)) → SourceIs w s p (depth_at 0 way) x K → SourceIs w s₁ p d x K
-      source_now {K = K} y way i = subst (λ z. SourceIs w s₁ p z x K) (sym (deep_is y way)) (source_moved moved (omega arith) i)
+      source_now {K = K} y way i = subst (λ z. SourceIs w s₁ p z x K) (sym (deep_is y way)) (source_moved c (omega arith) i)
 
       pub put_sourced : Sourced w s₁ p d h (most_abstractors - f.len - d) x
       put_sourced = record {
@@ -186,4 +208,4 @@ module _ {w : List ℕ} {f : FrameRecord} {s : List ℕ} {n p : ℕ} {x : Source
                 let count : length (letters (depth_at 0 way) (height_at 0 way) (lift x.lift 0 K)) ≡ x.end - x.start = length_letters (depth_at 0 way) (height_at 0 way) (lift x.lift 0 K) ∙ omega (arith, size_lift x.lift 0 K, source_size i) in
                 put_held y way (lift x.lift 0 K) u (omega (arith, scope_lift x.lift 0 K, deep_is y way, stored_depth y.stored, put_room)) l
                 (omega (arith, put_bounds, size_lift x.lift 0 K, source_size i)) refl
-                (splice (omega (arith, put_bounds)) (omega (arith, put_bounds)) (omega (arith, count, put_bounds)) (subst (λ y. Copied s (p + 1) n s s₁ (p + y)) (sym count) moved) (z ∙ ap (sets s₁ p) v) same_length)
+                (splice (omega (arith, put_bounds)) (omega (arith, put_bounds)) (omega (arith, count, put_bounds)) (subst (λ y. Copied s (p + 1) n s s₁ (p + y)) (sym count) c) (z ∙ ap (sets s₁ p) v) same_length)

@@ -41,34 +41,25 @@ pub record LiftableLetter (c k h low x : ℕ) : Type 0 where
   pub low_enough : low ≤ height_of x
   pub high : height_of x + h < low + heights
 
--- A term that lies in s, where its first letter has depth c, and that may be lifted by k to height h.
-pub record TermLiftable (s : List ℕ) (from e c k h : ℕ) : Type 0 where
-  pub array : length s ≡ longest_term
+-- The letters of a term, the first of depth c, that may be lifted by k to height h.
+pub record LettersLiftable (s : List ℕ) (c k h : ℕ) : Type 0 where
   pub low : ℕ
   pub term : Term
-  pub lies : Lies s from e c low term
+  pub lies : Lies s 0 (length s) c low term
   pub few : c + scope term + k ≤ most_abstractors
-  pub high : h + e ≤ from + longest_term
+  pub high : h + length s ≤ longest_term
 
--- Lifted so, it has room in s from `at` on, past its end.
-pub record PartLiftable (s : List ℕ) (from e c k h at : ℕ) : Type 0 where
-  pub liftable : TermLiftable s from e c k h
-  pub past : e ≤ at
-  pub fits : at + (e - from) ≤ longest_term
-
--- The term in r goes lifted to s.
-pub record Lifts (r s s' : List ℕ) (from e c k h at : ℕ) : Type 0 where
-  pub all : (low : ℕ) (t : Term) → Lies r from e c low t → c + scope t + k ≤ most_abstractors → Mapped (lifted_letter c k h low) r s s' from e at
-  pub same_length : length s' ≡ length s
+-- Lifted so, they are s'.
+pub record LettersLifted (s s' : List ℕ) (c k h : ℕ) : Type 0 where
+  pub all : (low : ℕ) (t : Term) → Lies s 0 (length s) c low t → c + scope t + k ≤ most_abstractors → s' ≡ map (lifted_letter c k h low) s
 
 -- The most abstractors of the body that any letter of a term has in scope.
-pub record DeepestIs (s : List ℕ) (from e r : ℕ) : Type 0 where
-  pub all : (c low : ℕ) (t : Term) → Lies s from e c low t → c + scope t ≤ most_abstractors → r ≡ c + scope t
+pub record DeepestIs (s : List ℕ) (r : ℕ) : Type 0 where
+  pub all : (c low : ℕ) (t : Term) → Lies s 0 (length s) c low t → c + scope t ≤ most_abstractors → r ≡ c + scope t
 
-pub record SomeLies (s : List ℕ) (from e : ℕ) : Type 0 where
-  pub array : length s ≡ longest_term
+pub record SomeLies (s : List ℕ) : Type 0 where
   pub c : ℕ
   pub low : ℕ
   pub term : Term
-  pub lies : Lies s from e c low term
+  pub lies : Lies s 0 (length s) c low term
   pub few : c + scope term ≤ most_abstractors

@@ -1,6 +1,6 @@
 -- A term takes the place of a variable, lifted: U for a type, K for a local step.
 -- Assumes nothing.
-use Rattle.std.specs.Prelude.{ℕ, ◌+◌, ◌-◌, ◌≤◌, ◌≡◌, Bool, true, false, List, length}
+use Rattle.std.specs.Prelude.{ℕ, ◌+◌, ◌-◌, ◌≤◌, ◌≡◌, Bool, List, length}
 use Rattle.calculus.specs.Terms.{Term, var, Closed, lift}
 use Rattle.calculus.specs.Frames.{Frame, depth}
 use Rattle.code.specs.Limits.{longest_term, longest_state, most_abstractors}
@@ -11,12 +11,13 @@ use Rattle.letters.specs.Letters.{Lies}
 use Rattle.letters.specs.Clauses.{ReadAs}
 use Rattle.bodies.specs.Ways.{Way, put, depth_at}
 use Rattle.bodies.specs.Held.{Held, Form, FormAs}
+use Rattle.bodies.specs.declared.Holder.TheVariants.{TheFrame, TheBody}
 use Rattle.bodies.specs.declared.Source.{Source}
 
 -- The term for a variable at place p, which has depth d, stands where x says: in the frame's bytes w, or among the letters before p.
 pub data SourceIs (w s : List ℕ) (p d : ℕ) (x : Source) (K : Term) : Type 0 where
-  in_frame : x.framed ≡ true → x.lift ≤ most_abstractors → Stands w x.start x.end K → SourceIs w s p d x K
-  in_body : {c low : ℕ} → x.framed ≡ false → c + x.lift ≡ d → Lies s x.start x.end c low K → c + scope K ≤ most_abstractors → x.end ≤ p → SourceIs w s p d x K
+  in_frame : x.holder ≡ TheFrame → x.lift ≤ most_abstractors → Stands w x.start x.end K → SourceIs w s p d x K
+  in_body : {c low : ℕ} → x.holder ≡ TheBody → c + x.lift ≡ d → Lies s x.start x.end c low K → c + scope K ≤ most_abstractors → x.end ≤ p → SourceIs w s p d x K
 
 -- Lifted, with its first letter at depth d and height h, it has room from p on; `room` of its abstractors may be in scope.
 pub record Sourced (w s : List ℕ) (p d h room : ℕ) (x : Source) : Type 0 where

@@ -1,15 +1,14 @@
 // A body held as letters, after a frame: its type, and a local step on it (document 01, 'Terms' and 'Steps').
 #![tactic(auto)]
 
-ghost use Rattle.std.specs.Prelude.{◌≡◌, ◌+◌, ◌-◌, ◌≤◌, ◌<◌, max, length};
+ghost use Rattle.std.specs.Prelude.{◌≡◌, ◌≤◌, ◌<◌, get_or, length};
 ghost use Rattle.code.specs.Limits.{longest_term};
-ghost use Rattle.letters.specs.Letters.{depth_of};
-ghost use Rattle.parts.specs.Parts.{Copied};
+ghost use Rattle.letters.specs.Letters.{height_of};
 ghost use Rattle.bodies.specs.declared.StepError.TheVariants.{NotPossible};
 ghost use Rattle.bodies.specs.Reasons.{said, reason_number};
 ghost use Rattle.bodies.specs.Held.{SomeHeld, InBody, Steps, Types};
-ghost use Rattle.bodies.specs.Finding.{Findable, Found, Matable, Mated, SomeBound, Finds};
-ghost use Rattle.bodies.specs.Moving.{Ending, LiftableLetter, lifted_letter, PartLiftable, Lifts, SomeLies, DeepestIs};
+ghost use Rattle.bodies.specs.Finding.{Findable, Found, partner_from, SomeBound, Finds};
+ghost use Rattle.bodies.specs.Moving.{Ending, LiftableLetter, lifted_letter, LettersLiftable, LettersLifted, SomeLies, DeepestIs};
 ghost use Rattle.bodies.specs.Putting.{Sourced, SourceWritten, Puttable, PutsTerm};
 
 use code::numbers::{LONGEST_TERM, MOST_ABSTRACTORS};
@@ -50,65 +49,38 @@ impl From<Reason> for StepError {
     }
 }
 
-// A variable's abstractor in the body, and the K of its couple: where that starts, 0 if there is none, and where it ends.
-#[derive(Drop)]
-struct Binder {
-    applied: usize,
+// Letters of the body from `start` up to `end`.
+#[derive(Clone, Copy)]
+struct Part {
+    start: usize,
     end: usize,
-    abstractor: usize,
 }
 
-// A term that is to take a variable's place, in the frame's bytes or among the body's letters, and by how much it is lifted.
-#[derive(Drop)]
+// Where a term stands that is to take a variable's place: in the frame's bytes, or among the body's letters.
+#[derive(Clone, Copy)]
+enum Holder {
+    TheFrame,
+    TheBody,
+}
+
+// Such a term, from `start` up to `end` there, and by how much it is lifted.
+#[derive(Clone, Copy)]
 struct Source {
-    framed: bool,
+    holder: Holder,
     start: usize,
     end: usize,
     lift: usize,
 }
 
-// ---- Parts of the array.
-// The part moves up, last letter first: old and new place may overlap. By 0, as where one letter takes another's place, nothing moves.
-pub fn move_right(s: &mut Letters, from: usize, to: usize, by: usize)
-    requires { (from ≤ to) × (to + by ≤ length s.old) × (length s.old ≡ longest_term) }
-    ensures { Copied s.old from to s.old s.new (from + by) }
-{
-    if by == 0 {
-        return;
-    }
-    let mut i = to;
-    while from < i {
-        i -= 1;
-        s[i + by] = s[i];
-    }
-}
-
-// The part moves down, first letter first: old and new place may overlap.
-pub fn move_left(s: &mut Letters, from: usize, to: usize, by: usize)
-    requires { (by ≤ from) × ((from ≤ to) × (to ≤ length s.old)) × (length s.old ≡ longest_term) }
-    ensures { Copied s.old from to s.old s.new (from - by) }
-{
-    let mut place = from;
-    while place < to {
-        s[place - by] = s[place];
-        place += 1;
-    }
-}
-
-fn least(x: u32, y: u32) -> u32
-    ensures { (result ≤ x) × (result ≤ y) }
-{
-    if x < y { x } else { y }
-}
-
+// ---- The end of a term.
 // A place from i on, of n, up to which no letter is less high than h: four letters are tried at once, as the highest bits are the height.
 fn skip_high(s: &Letters, n: usize, i: usize, h: usize) -> usize
-    requires { (length s.now ≡ longest_term) × (n ≤ longest_term) × (i ≤ n) }
+    requires { (n ≤ longest_term) × (i ≤ n) }
     ensures { Ending s.now result i h result × (result ≤ n) }
 {
     let mut j = i;
     while j + 4 <= n {
-        if height_of(least(least(s[j], s[j + 1]), least(s[j + 2], s[j + 3]))) < h {
+        if height_of(s[j].min(s[j + 1]).min(s[j + 2].min(s[j + 3]))) < h {
             return j;
         }
         j += 4;
@@ -118,18 +90,16 @@ fn skip_high(s: &Letters, n: usize, i: usize, h: usize) -> usize
 
 // The first place from i on, of n, whose letter is less high than h.
 pub fn end_of(s: &Letters, n: usize, i: usize, h: usize) -> usize
-    requires { (length s.now ≡ longest_term) × (n ≤ longest_term) × (i ≤ n) }
+    requires { (n ≤ longest_term) × (i ≤ n) }
     ensures { Ending s.now n i h result }
 {
     if h == 0 {
         return n;
     }
-    let mut j = skip_high(s, n, i, h);
-    while j < n {
+    for j in skip_high(s, n, i, h)..n {
         if height_of(s[j]) < h {
             return j;
         }
-        j += 1;
     }
     n
 }
@@ -142,9 +112,7 @@ fn abstractor_of(s: &Letters, p: usize, d: usize) -> usize
 {
     let mut m = height_of(s[p]);
     let mut sought = letter_of(ABSTRACTOR, d, m);
-    let mut q = p;
-    while q > 0 {
-        q -= 1;
+    for q in (0..p).rev() {
         let x = s[q];
         if x == sought {
             return q;
@@ -158,35 +126,28 @@ fn abstractor_of(s: &Letters, p: usize, d: usize) -> usize
     p
 }
 
-// The abstractor at q, and the K of the applicator that matches it in its train: wagons of the train are passed from right to left, and
+// The K of the applicator that matches the abstractor at q in its train: wagons of the train are passed from right to left, and
 // `unmatched` of the abstractors among them are still to be matched; `next` is the last one passed.
-fn partner_of(s: &Letters, q: usize) -> Binder
-    requires { Matable s.now q }
-    ensures { Mated s.now q result }
+fn partner_of(s: &Letters, q: usize) -> Option<Part>
+    requires { q < longest_term }
+    ensures { result ≡ partner_from s.now (height_of (get_or s.now q 0)) q 0 q }
 {
     let h = height_of(s[q]);
     let mut unmatched: usize = 0;
     let mut next = q;
-    let mut i = q;
-    while i > 0 {
-        i -= 1;
+    for i in (0..q).rev() {
         let x = s[i];
         let g = height_of(x);
         if g <= h {
             if g < h {
-                return Binder {
-                    applied: 0,
-                    end: 0,
-                    abstractor: q,
-                };
+                return None;
             }
             if symbol_of(x) == APPLICATOR {
                 if unmatched == 0 {
-                    return Binder {
-                        applied: i + 1,
+                    return Some(Part {
+                        start: i + 1,
                         end: next,
-                        abstractor: q,
-                    };
+                    });
                 }
                 unmatched -= 1;
             } else {
@@ -195,15 +156,11 @@ fn partner_of(s: &Letters, q: usize) -> Binder
             next = i;
         }
     }
-    Binder {
-        applied: 0,
-        end: 0,
-        abstractor: q,
-    }
+    None
 }
 
-// The binder of the variable at place p, an abstractor of depth d, and what it matches.
-fn find(s: &Letters, p: usize, d: usize) -> Binder
+// The K of the couple of the variable at place p, whose abstractor in the body has depth d.
+fn find(s: &Letters, p: usize, d: usize) -> Option<Part>
     requires { SomeBound s.now p d }
     ensures { Finds s.now p d result }
 {
@@ -212,13 +169,6 @@ fn find(s: &Letters, p: usize, d: usize) -> Binder
 }
 
 // ---- Lifting.
-pub fn narrow(x: usize) -> u32
-    requires { x < 4294967296 }
-    ensures { result ≡ x }
-{
-    x as u32
-}
-
 // A letter of a term that is lifted by k, in 32 bits as the letters are, so that the loop is vectorised. The first letter of the term has
 // depth c and height low, and is to have depth c + k and height h.
 pub fn lifted_letter(x: u32, c: u32, k: u32, h: u32, low: u32) -> u32
@@ -236,40 +186,25 @@ pub fn lifted_letter(x: u32, c: u32, k: u32, h: u32, low: u32) -> u32
     y
 }
 
-// The term that lies in s from `from` up to `to`, where its first letter has depth c, goes lifted by k to `at`, past it, where its first
-// letter has height h.
-fn lift_part(s: &mut Letters, from: usize, to: usize, c: u32, k: u32, h: u32, at: usize)
-    requires { PartLiftable s.old from to c k h at }
-    ensures { Lifts s.old s.old s.new from to c k h at }
+// The letters of a term, the first of which has depth c, go lifted by k to `out`, where the first has height h.
+pub fn lift_to(term: &[u32], c: u32, k: u32, h: u32, out: &mut [u32])
+    requires { LettersLiftable term.now c k h × (length out.old ≡ length term.now) }
+    ensures { LettersLifted term.now out.new c k h }
 {
-    let low = narrow(height_of(s[from]));
-    let mut i = from;
-    let mut j = at;
-    while i < to {
-        s[j] = lifted_letter(s[i], c, k, h, low);
-        i += 1;
-        j += 1;
+    let low = height_of(term[0]) as u32;
+    for (i, x) in term.iter().enumerate() {
+        out[i] = lifted_letter(*x, c, k, h, low);
     }
 }
 
-// The larger of x and the depth of a letter.
-fn deeper(x: u32, letter: u32) -> u32
-    ensures { result ≡ max x (depth_of letter) }
-{
-    let d = letter / 1024 % 1024;
-    if x < d { d } else { x }
-}
-
-// The most abstractors of the body that any letter of the term from `from` up to `to` has in scope.
-pub fn deepest(s: &Letters, from: usize, to: usize) -> u32
-    requires { SomeLies s.now from to }
-    ensures { DeepestIs s.now from to result }
+// The most abstractors of the body that any letter of a term has in scope.
+pub fn deepest(term: &[u32]) -> u32
+    requires { SomeLies term.now }
+    ensures { DeepestIs term.now result }
 {
     let mut most: u32 = 0;
-    let mut i = from;
-    while i < to {
-        most = deeper(most, s[i]);
-        i += 1;
+    for x in term {
+        most = most.max(x / 1024 % 1024);
     }
     most
 }
@@ -289,16 +224,25 @@ fn write_source(
     requires { Sourced work.now s.old p d h room x }
     ensures { SourceWritten work.now s.old s.new p d h room x result }
 {
-    let k = x.lift;
-    if x.framed {
-        return read(work, x.start, x.end, k, d, h, room, s, p);
+    match x.holder {
+        Holder::TheFrame => read(work, x.start, x.end, x.lift, d, h, room, s, p),
+        Holder::TheBody => {
+            let c = (d - x.lift) as u32;
+            let (before, place) = s.split_at_mut(p);
+            let term = &before[x.start..x.end];
+            if deepest(term) > c + room as u32 {
+                return false;
+            }
+            lift_to(
+                term,
+                c,
+                x.lift as u32,
+                h as u32,
+                &mut place[..x.end - x.start],
+            );
+            true
+        }
     }
-    let c = narrow(d - k);
-    if deepest(s, x.start, x.end) > c + narrow(room) {
-        return false;
-    }
-    lift_part(s, x.start, x.end, c, narrow(k), narrow(h), p);
-    true
 }
 
 // The term that x says, lifted, takes the place of the variable at p of the body in the first n letters, after the frame.
@@ -321,7 +265,7 @@ fn put(
     let v = s[p];
     let d = depth_of(v);
     let room = MOST_ABSTRACTORS - frame.len - d;
-    move_right(s, p + 1, n, size - 1);
+    s.copy_within(p + 1..n, p + size);
     if !write_source(s, work, x, d, height_of(v), room, p) {
         return Err(StepError::Outgrown);
     }
@@ -341,35 +285,29 @@ pub fn local(
 {
     let v = s[p];
     let k = symbol_of(v);
-    if k == 0 {
-        return Err(StepError::NotPossible(Reason::WrongSymbol));
-    }
-    if k >= APPLICATOR {
+    if k == 0 || k >= APPLICATOR {
         return Err(StepError::NotPossible(Reason::WrongSymbol));
     }
     let d = depth_of(v);
     if k <= d {
-        let b = find(s, p, d - k);
-        let applied = b.applied;
-        if applied == 0 {
+        let Some(applied) = find(s, p, d - k) else {
             return Err(StepError::NotPossible(Reason::NoPartner));
-        }
+        };
         let x = Source {
-            framed: false,
-            start: applied,
-            end: b.end,
-            lift: d - depth_of(s[applied - 1]),
+            holder: Holder::TheBody,
+            start: applied.start,
+            end: applied.end,
+            lift: d - depth_of(s[applied.start - 1]),
         };
         return put(s, n, work, frame, p, x);
     }
     let e = entry_at(work, frame, k - d);
-    let start = e.applied;
-    if start == 0 {
+    let Some(start) = e.applied else {
         return Err(StepError::NotPossible(Reason::NoPartner));
-    }
+    };
     let x = Source {
-        framed: true,
-        start: start,
+        holder: Holder::TheFrame,
+        start,
         end: e.domain - 1,
         lift: k,
     };
@@ -398,7 +336,7 @@ pub fn type_in_place(
         let h = height_of(s[q]);
         let to = end_of(s, n, q + 1, h + 1);
         let x = Source {
-            framed: false,
+            holder: Holder::TheBody,
             start: q + 1,
             end: to,
             lift: k,
@@ -407,7 +345,7 @@ pub fn type_in_place(
     }
     let e = entry_at(work, frame, k - d);
     let x = Source {
-        framed: true,
+        holder: Holder::TheFrame,
         start: e.domain,
         end: e.end,
         lift: k,

@@ -8,6 +8,7 @@ use native.Mathlib.Omega.{arith}
 use native.Mathlib.Numerals.{add-one}
 use lib.ListN.{length, get_or, length-set}
 use lib.Seq.{get_or-set_same}
+use Rattle.std.specs.Prelude.{Some, None}
 use Rattle.calculus.specs.Frames.{Entry, domain, Frame, ε, ◌▹◌, depth, entry_at}
 use Rattle.code.specs.Limits.{longest_state, most_abstractors}
 use Rattle.std.specs.Prelude as prelude
@@ -125,10 +126,10 @@ module _ {w : List ℕ} {p e : ℕ} where
   pub entry_room : EntryAt w p e → suc p < longest_state
   entry_room h = omega (arith, bytes_start h.bytes, bytes_end h.bytes, h.work)
 
-  pub single_parts : get_or w p 0 ≡ 0xff → Parted w p e (record { applied = 0; domain = p + 1; end = e })
+  pub single_parts : get_or w p 0 ≡ 0xff → Parted w p e (record { applied = None; domain = p + 1; end = e })
   single_parts q = record { ends = refl; parts = go }
     where
-      go : (x : Entry) → EntryBytes w p x e → EntryParts w (record { applied = 0; domain = p + 1; end = e }) x
+      go : (x : Entry) → EntryBytes w p x e → EntryParts w (record { applied = None; domain = p + 1; end = e }) x
       go x (bytes_single {U = U} b u) = span_single {U = U} refl (rw add-one u)
       go x (bytes_pair b k c u) = absurd (omega arith)
 
@@ -147,14 +148,14 @@ module _ {w : List ℕ} {p e : ℕ} where
         go x (bytes_single b u) = absurd (n b)
         go x (bytes_pair {m = i} {K = K} b k c u) = omega (arith, a.ends i K (rw add-one k), stands_start u, stands_end u, h.work)
 
-    pub pair_parts : {m : ℕ} → EndAt w (p + 1) m → Parted w p e (record { applied = p + 1; domain = m + 1; end = e })
+    pub pair_parts : {m : ℕ} → EndAt w (p + 1) m → Parted w p e (record { applied = Some (p + 1); domain = m + 1; end = e })
     pair_parts {m} a = record { ends = refl; parts = go }
       where
-        go : (x : Entry) → EntryBytes w p x e → EntryParts w (record { applied = p + 1; domain = m + 1; end = e }) x
+        go : (x : Entry) → EntryBytes w p x e → EntryParts w (record { applied = Some (p + 1); domain = m + 1; end = e }) x
         go x (bytes_single b u) = absurd (n b)
         go x (bytes_pair {m = i} {K = K} {U = U} b k c u) =
             let q : m ≡ i = a.ends i K (rw add-one k) in
-            span_pair {m = m} {K = K} {U = U} (omega arith) (add-one m) (rw (q, add-one) k) (rw (q, add-one) u)
+            span_pair {m = m} {K = K} {U = U} refl (add-one m) (rw (q, add-one) k) (rw (q, add-one) u)
 
 module _ {w : List ℕ} {r : FrameRecord} {k p e : ℕ} (l : 1 ≤ k) (m : k ≤ r.len) (g : Ends r.starts r.len r.end k e) (q : p ≡ get_or r.starts (r.len - k) 0) where
   pub entry_bounds : Holding w r → EntryAt w p e

@@ -1,6 +1,6 @@
 -- A frame stored in a work array (document 01, 'The frame record holds an array of entry starts beside its bytes').
 -- Assumes nothing.
-use Rattle.std.specs.Prelude.{ℕ, suc, ◌+◌, ◌≤◌, ◌<◌, ◌≡◌, List, length, get_or, set}
+use Rattle.std.specs.Prelude.{ℕ, suc, ◌+◌, ◌≤◌, ◌<◌, ◌≡◌, List, length, get_or, set, Some, None}
 use Rattle.std.proofs.Math.Option.{some}
 use Rattle.calculus.specs.Terms.{Term}
 use Rattle.calculus.specs.Frames.{Entry, single, pair, Frame, ε, ◌▹◌, entry_at}
@@ -50,10 +50,10 @@ record_of starts len end = record { starts = starts; len = len; end = end }
 abbrev pub pushed : FrameRecord → ℕ → FrameRecord
 pushed r e = record { starts = set r.starts r.len r.end; len = r.len + 1; end = e }
 
--- Where the parts of an entry stand: U from `domain` up to `end`; K from `applied` up to one before `domain`, where `applied` is not 0.
+-- Where the parts of an entry stand: U from `domain` up to `end`; K from `applied`, if there is one, up to one before `domain`.
 pub data EntryParts (w : List ℕ) (s : Span) : Entry → Type 0 where
-  span_single : {U : Term} → s.applied ≡ 0 → Stands w s.domain s.end U → EntryParts w s (single U)
-  span_pair : {m : ℕ} {K U : Term} → 1 ≤ s.applied → s.domain ≡ suc m → Stands w s.applied m K → Stands w s.domain s.end U → EntryParts w s (pair K U)
+  span_single : {U : Term} → s.applied ≡ None → Stands w s.domain s.end U → EntryParts w s (single U)
+  span_pair : {k m : ℕ} {K U : Term} → s.applied ≡ Some k → s.domain ≡ suc m → Stands w k m K → Stands w s.domain s.end U → EntryParts w s (pair K U)
 
 -- Some term stands in the work array from p.
 pub record SomeTermFrom (w : List ℕ) (p : ℕ) : Type 0 where

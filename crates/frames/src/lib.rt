@@ -22,10 +22,10 @@ pub struct FrameRecord {
     pub end: usize,
 }
 
-// Where the parts of an entry stand; `applied` is 0 where it is a single abstractor.
-#[derive(Drop)]
+// Where the parts of an entry stand; nothing is applied where it is a single abstractor.
+#[derive(Clone, Copy)]
 pub struct Span {
-    pub applied: usize,
+    pub applied: Option<usize>,
     pub domain: usize,
     pub end: usize,
 }
@@ -56,14 +56,14 @@ fn parts_of(work: &Work, p: usize, e: usize) -> Span
 {
     if work[p] == 0xff {
         return Span {
-            applied: 0,
+            applied: None,
             domain: p + 1,
             end: e,
         };
     }
     let m = end_of(work, p + 1);
     Span {
-        applied: p + 1,
+        applied: Some(p + 1),
         domain: m + 1,
         end: e,
     }

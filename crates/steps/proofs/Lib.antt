@@ -6,6 +6,5 @@ pub mod Couples
 pub mod Removing
 pub mod Filling
 pub mod Storing
-pub mod Lifting
 pub mod Writing
 pub mod Substituting

@@ -35,7 +35,8 @@ use Rattle.steps.specs.declared.Couple.{Couple}
 use Rattle.steps.proofs.Lowering.{lowered_lies, uses_none, uses_some, lower_size, lower_scope}
 use Rattle.steps.proofs.Tails.{partner_along, tail_scope, instead_size, instead_scope, instead_letters}
 use Rattle.steps.proofs.Couples.{removal_here, bounds, couple_of_body, some_couple, couple_inside, places, in_scope}
-use Rattle.steps.proofs.Storing.{moved_within, mapped_part}
+use Rattle.bodies.proofs.Storing.{moved_within}
+use Rattle.steps.proofs.Storing.{mapped_part}
 use Rattle.steps.proofs.Writing.{later_letters, behind_gap}
 
 -- ---- The letters from q up to e move to p, changed, with all that follow.

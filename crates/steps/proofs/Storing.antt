@@ -1,32 +1,19 @@
 -- What a body holds after the library's methods have moved or changed a part of it.
 -- Assumes nothing.
 use Prim.Native.Nat.{ℕ, ◌+◌, ◌-◌, ◌≤◌, ◌<◌}
-use mathlib.Core.Path.{◌≡◌, refl, ap, sym, ◌∙◌}
-use mathlib.Core.List.{List, ◌++◌, map, append_assoc, append-nil}
+use mathlib.Core.Path.{◌≡◌, ap, sym, ◌∙◌}
+use mathlib.Core.List.{List, ◌++◌, map}
 use native.Mathlib.Omega.{arith}
-use native.Mathlib.Nat.{sub-zero, zero-add}
+use native.Mathlib.Nat.{sub-zero}
 use borrow.Rule.Slice.PartMut.{put_mid}
 use lib.ListN.{length, get_or, set, take, drop, length-append, length-drop, length-map}
-use lib.Seq.{paste, sets, sets-eq, length-sets, length-take-le}
-use Rattle.std.proofs.lemmas.List.{drop_more, drop_all, get_or_at, get_or_default}
-use Rattle.std.proofs.lemmas.List.Edits.{paste_more, paste_all, map_over_more}
-use Rattle.std.proofs.lemmas.Slice.{put_mid-paste}
+use lib.Seq.{sets, length-sets, length-take-le}
+use Rattle.std.proofs.lemmas.List.{drop_more, get_or_at, get_or_default}
+use Rattle.std.proofs.lemmas.List.Edits.{map_over_more}
 use Rattle.parts.specs.Parts.{part, Copied}
 use Rattle.parts.proofs.Cut.{length_part}
 use Rattle.bodies.specs.Moving.{Mapped}
-
--- After a write to the part of k letters from `at` on.
-pub stored : (s v : List ℕ) (at k : ℕ) → length v ≡ k → at + k ≤ length s → put_mid at k s v ≡ sets s at v
-stored s v at k q l =
-    put_mid-paste at k s v v k refl refl (sym q) ∙ paste_all s at v k (sym q) ∙ sym (append_assoc (take at s) v (drop (at + k) s))
-    ∙ ap (λ z. (take at s ++ v) ++ drop (at + z) s) (sym q) ∙ sym (sets-eq v s at (omega (arith, q)))
-
--- After `copy_within`.
-pub moved_within : {s s' : List ℕ} {from to at : ℕ} → to ≤ length s → at + (to - from) ≤ length s → s' ≡ paste s at (drop from s) (to - from) → Copied s from to s s' at
-moved_within {s} {s'} {from} {to} {at} l m q = record { bytes = now; same_length = ap length now ∙ length-sets s at (part s from to) }
-  where
-    now : s' ≡ sets s at (part s from to)
-    now = let k = length_part s from to l in q ∙ ap (λ z. (take at s ++ part s from to) ++ drop (at + z) s) (sym k) ∙ sym (sets-eq (part s from to) s at (omega (arith, k)))
+use Rattle.bodies.proofs.Storing.{stored}
 
 -- After `copy_from_slice` of the first n of r.
 pub copied_start : {r s v : List ℕ} {n at k : ℕ} → n ≤ length r → at + n ≤ length s → k ≡ n → v ≡ take n r → Copied r 0 n s (put_mid at k s v) at
@@ -41,13 +28,6 @@ mapped_part {g} {s} {v} {from} {to} o l q = record { letters_there = now; same_l
   where
     now : put_mid from (to - from) s v ≡ sets s from (map g (part s from to))
     now = rw q (stored s (map g (part s from to)) from (to - from) (length-map (part s from to) g ∙ length_part s from to l) (omega arith))
-
--- ---- A loop that stores the numbers s, one after the other, over all of d.
-pub storing_more : (d s : List ℕ) {e : List ℕ} (i : ℕ) {y : ℕ} → length d ≡ length s → i < length s → e ≡ paste d 0 s i → y ≡ get_or s i 0 → set e i y ≡ paste d 0 s (i + 1)
-storing_more d s i m l q r = rw (q, r) (ap (λ j. set (paste d 0 s i) j (get_or s i 0)) (sym (zero-add i)) ∙ paste_more d 0 s i 0 (omega arith) l)
-
-pub storing_all : (d s : List ℕ) {e : List ℕ} (i : ℕ) → length d ≡ length s → i ≡ length s → e ≡ paste d 0 s i → e ≡ s
-storing_all d s i m l q = q ∙ paste_all d 0 s i l ∙ ap (s ++◌) (drop_all (0 + i) d (omega arith)) ∙ append-nil s
 
 -- ---- A loop that changes each letter of s in its place: the first i are changed.
 module _ (g : ℕ → ℕ) (s : List ℕ) {e : List ℕ} (i : ℕ) (l : i < length s) (q : e ≡ map g (take i s) ++ drop i s) where

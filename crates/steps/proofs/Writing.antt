@@ -18,19 +18,18 @@ use Rattle.parts.specs.Parts.{part, Copied}
 use Rattle.parts.proofs.Cut.{length_part, part_first, part_empty}
 use Rattle.parts.proofs.Stores.{drop_sets, take_sets_end, drop_sets_start}
 use Rattle.letters.specs.Letters.{symbol_of, depth_of, height_of, Lies}
-use Rattle.bodies.specs.Moving.{lifted_letter, SomeLies, DeepestIs, Spliced}
+use Rattle.bodies.specs.Moving.{lifted_letter, LettersLiftable, LettersLifted, SomeLies, DeepestIs, Spliced}
 use Rattle.bodies.proofs.Extents.{above, under, first_height}
 use Rattle.bodies.proofs.Places.{splice}
 use Rattle.steps.specs.Lowering.{lowered_letter, is_use, use_of, uses_of}
-use Rattle.steps.specs.Lifting.{LettersLiftable, LettersLifted}
 use Rattle.steps.specs.Couples.{CoupleLies, SomeCouple, remaining}
 use Rattle.steps.specs.Filling.{filled_letter, filled, filling_of, filling, use_depth, deepest_use, UsesAre, LetterFillable, LetterFills, Fillable, Fills, Rewritable}
 use Rattle.steps.specs.declared.Couple.{Couple}
 use Rattle.steps.proofs.Lowering.{Counting, counting_end}
 use Rattle.steps.proofs.Couples.{places}
 use Rattle.steps.proofs.Filling.{length_letter, filled_length}
-use Rattle.steps.proofs.Lifting.{lies_part}
-use Rattle.steps.proofs.Storing.{stored}
+use Rattle.bodies.proofs.Lifting.{lies_part}
+use Rattle.bodies.proofs.Storing.{stored}
 
 -- ---- How often and how deep the variable is used: the loop.
 pub record Deepening (s : List ℕ) (c i most : ℕ) : Type 0 where
@@ -77,12 +76,12 @@ module _ {s : List ℕ} {p : ℕ} {x : Couple} (g : SomeCouple s p x) where
     pub size_is : x.end - x.rest + r * (x.between - p - 2) ≡ length (filling s p x)
     size_is = rw (q, ← one_more) (sym (filled_length x.depth x.outer (height_of (get_or s (p + 1) 0)) (part s (p + 1) x.between) (omega (arith, count_k, places g)) (part s x.rest x.end) ∙ ap (◌+ uses_of x.depth (part s x.rest x.end) * (length (part s (p + 1) x.between) - 1)) count_rest))
 
-  pub K_lies : SomeLies s (p + 1) x.between
-  K_lies = record { array = g.array; c = x.outer; low = suc g.h; term = g.K; lies = g.lies.argument; few = omega (arith, g.lies.argument_few) }
+  pub K_lies : SomeLies (part s (p + 1) x.between)
+  K_lies = record { c = x.outer; low = suc g.h; term = g.K; lies = lies_part g.lies.argument (omega (arith, places g, g.array)); few = omega (arith, g.lies.argument_few) }
 
-  module _ {most : ℕ} (c : DeepestIs s (p + 1) x.between most) where
+  module _ {most : ℕ} (c : DeepestIs (part s (p + 1) x.between) most) where
     K_depth : {h d j : ℕ} {K U B : Term} → CoupleLies s p h d x j K U B → most ≡ x.outer + scope K
-    K_depth {h} {K = K} l = c.all x.outer (suc h) K l.argument (omega (arith, l.argument_few))
+    K_depth {h} {K = K} l = c.all x.outer (suc h) K (lies_part l.argument (omega (arith, places g, g.array))) (omega (arith, l.argument_few))
 
     pub K_deep : (x.outer ≤ most) × (most ≤ most_abstractors)
     K_deep = (omega (arith, K_depth g.lies), omega (arith, K_depth g.lies, g.lies.argument_few))

@@ -1,6 +1,5 @@
 -- The definitions and contracts of this crate.
 -- Assumes nothing.
 pub mod Lowering
-pub mod Lifting
 pub mod Couples
 pub mod Filling

@@ -8,11 +8,10 @@ ghost use Rattle.letters.specs.Letters.{depth_of};
 ghost use Rattle.bodies.specs.Held.{SomeHeld, Steps};
 ghost use Rattle.bodies.specs.Moving.{Spliced};
 ghost use Rattle.steps.specs.Lowering.{lowered_letter, is_use, InScope};
-ghost use Rattle.steps.specs.Lifting.{LettersLiftable, LettersLifted};
 ghost use Rattle.steps.specs.Couples.{InSomeBody, InBodyAfter, SomeTail, Partnered, remaining, Searches, Places};
 ghost use Rattle.steps.specs.Filling.{use_depth, UsesAre, filling, LetterFillable, LetterFills, Fillable, Fills, Rewritable};
 
-use bodies::{Reason, StepError, deepest, end_of, lifted_letter, local, narrow};
+use bodies::{Reason, StepError, deepest, end_of, lift_to, local};
 use code::numbers::{LONGEST_TERM, MOST_ABSTRACTORS};
 use frames::{FrameRecord, Work};
 use letters::{APPLICATOR, Letters, depth_of, height_of, symbol_of, wide};
@@ -72,8 +71,8 @@ fn couple_at(s: &Letters, n: usize, p: usize) -> Result<Couple, Reason>
     let q = end_of(s, n, a + 1, h + 1);
     let e = end_of(s, n, q, h);
     Ok(Couple {
-        outer: narrow(depth_of(v)),
-        depth: narrow(depth_of(s[a])),
+        outer: depth_of(v) as u32,
+        depth: depth_of(s[a]) as u32,
         between: m,
         abstractor: a,
         rest: q,
@@ -163,17 +162,6 @@ fn removal(s: &mut Letters, n: usize, p: usize) -> Result<usize, StepError>
 }
 
 // ---- The whole substitution.
-// The letters of a term, the first of which has depth c, go lifted by k to `out`, where the first has height h.
-fn lift_to(term: &[u32], c: u32, k: u32, h: u32, out: &mut [u32])
-    requires { LettersLiftable term.now c k h × (length out.old ≡ length term.now) }
-    ensures { LettersLifted term.now out.new c k h }
-{
-    let low = narrow(height_of(term[0]));
-    for (i, x) in term.iter().enumerate() {
-        out[i] = lifted_letter(*x, c, k, h, low);
-    }
-}
-
 // What becomes of the letter y of B goes to `out` from j on: K, lifted, for a use. The place after it.
 fn fill_letter(s: &Letters, p: usize, x: Couple, y: u32, out: &mut [u32], j: usize) -> usize
     requires { LetterFillable s.now p x y out.old j }
@@ -185,8 +173,8 @@ fn fill_letter(s: &Letters, p: usize, x: Couple, y: u32, out: &mut [u32], j: usi
     }
     let argument = &s[p + 1..x.between];
     let end = j + argument.len();
-    let k = narrow(depth_of(y)) - 1 - x.outer;
-    lift_to(argument, x.outer, k, narrow(height_of(y)), &mut out[j..end]);
+    let k = depth_of(y) as u32 - 1 - x.outer;
+    lift_to(argument, x.outer, k, height_of(y) as u32, &mut out[j..end]);
     end
 }
 
@@ -240,8 +228,8 @@ fn whole(s: &mut Letters, n: usize, p: usize, len: usize) -> Result<usize, StepE
     if kept + size > LONGEST_TERM {
         return Err(StepError::Outgrown);
     }
-    let most = uses.deepest + (deepest(s, p + 1, x.between) - x.outer);
-    if most > narrow(MOST_ABSTRACTORS - len) + 1 {
+    let most = uses.deepest + (deepest(&s[p + 1..x.between]) - x.outer);
+    if most > (MOST_ABSTRACTORS - len) as u32 + 1 {
         return Err(StepError::Outgrown);
     }
     substitute(s, n, p, x, size);

@@ -8,6 +8,3 @@ use Rattle.bodies.proofs.abstractor_of.Given as goal
 
 abbrev pub invariant-loop-q : goal.invariant-loop-q
 invariant-loop-q l = Scanning l.s l.p l.d l.q l.m × (l.sought ≡ letter abstractor l.d l.m) × (l.m < 4096)
-
-abbrev pub decreases-loop-q : goal.decreases-loop-q
-decreases-loop-q l = l.q

@@ -5,7 +5,7 @@ use Rattle.bodies.proofs.Endings.{ending_next}
 use Rattle.bodies.proofs.end_of.Goals as goal
 
 pub returns-then-h-eq0 : goal.returns-then-h-eq0
-returns-then-h-eq0 c = record { after = c.requires.2; inside = omega arith; high = λ x a b. omega (arith, c.if-h-eq0.true); low = λ l. absurd (omega arith) }
+returns-then-h-eq0 c = record { after = c.requires.1; inside = omega arith; high = λ x a b. omega (arith, c.if-h-eq0.true); low = λ l. absurd (omega arith) }
 
 pub loop-j-init : goal.loop-j-init
 loop-j-init c = c.skip_high-j.ensures

@@ -5,6 +5,3 @@ use Rattle.bodies.proofs.partner_of.Given as goal
 
 abbrev pub invariant-loop-i : goal.invariant-loop-i
 invariant-loop-i l = Searching l.s l.q l.h l.i l.unmatched l.next
-
-abbrev pub decreases-loop-i : goal.decreases-loop-i
-decreases-loop-i l = l.i

@@ -2,6 +2,7 @@
 -- Assumes nothing.
 use native.Mathlib.Omega.{arith}
 use Rattle.bodies.proofs.Putting.{put_bounds, put_long, put_room, put_sourced, put_deep, put_done}
+use Rattle.bodies.proofs.Storing.{moved_within}
 use Rattle.bodies.proofs.put.Goals as goal
 
 pub overflow_sub-size : goal.overflow_sub-size
@@ -28,17 +29,23 @@ overflow_sub-room-2 c = omega (arith, put_room c.requires c.depth_of-d.ensures.0
 pub overflow_add-p : goal.overflow_add-p
 overflow_add-p c = omega (arith, put_bounds c.requires)
 
-pub overflow_sub-size-2 : goal.overflow_sub-size-2
-overflow_sub-size-2 c = omega (arith, put_bounds c.requires)
+pub copy_within-requires-clause-start_le_end : goal.copy_within-requires-clause-start_le_end
+copy_within-requires-clause-start_le_end c = omega (arith, put_bounds c.requires)
 
-pub move_right-requires : goal.move_right-requires
-move_right-requires c = let b = put_bounds c.requires in (omega arith, omega (arith, c.if-m-gt-LONGEST_TERM.false), b.4)
+pub copy_within-requires-clause-in_bounds : goal.copy_within-requires-clause-in_bounds
+copy_within-requires-clause-in_bounds c = omega (arith, put_bounds c.requires)
+
+pub copy_within-requires-clause-dest_in_bounds : goal.copy_within-requires-clause-dest_in_bounds
+copy_within-requires-clause-dest_in_bounds c = omega (arith, put_bounds c.requires, c.if-m-gt-LONGEST_TERM.false)
+
+pub overflow_add-p-2 : goal.overflow_add-p-2
+overflow_add-p-2 c = omega (arith, put_bounds c.requires)
 
 pub write_source-requires : goal.write_source-requires
-write_source-requires c = put_sourced c.requires c.depth_of-d.ensures.0 c.height_of.ensures.0 c.if-m-gt-LONGEST_TERM.false c.move_right.ensures
+write_source-requires c = put_sourced c.requires c.depth_of-d.ensures.0 c.height_of.ensures.0 c.if-m-gt-LONGEST_TERM.false (moved_within (omega (arith, put_bounds c.requires)) (omega (arith, put_bounds c.requires, c.if-m-gt-LONGEST_TERM.false)) c.copy_within.ensures.after)
 
 pub returns-then-not-write_source : goal.returns-then-not-write_source
-returns-then-not-write_source c = put_deep c.requires c.depth_of-d.ensures.0 c.height_of.ensures.0 c.if-m-gt-LONGEST_TERM.false c.move_right.ensures c.write_source.ensures c.if-not-write_source.true
+returns-then-not-write_source c = put_deep c.requires c.depth_of-d.ensures.0 c.height_of.ensures.0 c.if-m-gt-LONGEST_TERM.false (moved_within (omega (arith, put_bounds c.requires)) (omega (arith, put_bounds c.requires, c.if-m-gt-LONGEST_TERM.false)) c.copy_within.ensures.after) c.write_source.ensures c.if-not-write_source.true
 
 pub returns : goal.returns
-returns c = put_done c.requires c.depth_of-d.ensures.0 c.height_of.ensures.0 c.if-m-gt-LONGEST_TERM.false c.move_right.ensures c.write_source.ensures c.if-not-write_source.false
+returns c = put_done c.requires c.depth_of-d.ensures.0 c.height_of.ensures.0 c.if-m-gt-LONGEST_TERM.false (moved_within (omega (arith, put_bounds c.requires)) (omega (arith, put_bounds c.requires, c.if-m-gt-LONGEST_TERM.false)) c.copy_within.ensures.after) c.write_source.ensures c.if-not-write_source.false

@@ -30,7 +30,7 @@ pub overflow_add-q : goal.overflow_add-q
 overflow_add-q c = omega (arith, place_inside (last_in_body c.requires), abstractor_before c.depth_of-d.ensures.0 c.if-k-d.true c.abstractor_of-q.ensures (last_in_body c.requires) c.symbol_of-k.ensures.0 (omega (arith, c.if-k-eq0.false)) (omega (arith, c.symbol_of-k.ensures.0, last_small c.requires.held)))
 
 pub end_of-to-requires : goal.end_of-to-requires
-end_of-to-requires c = let b = place_inside (last_in_body c.requires) in (b.2, b.1, omega (arith, place_inside (last_in_body c.requires), abstractor_before c.depth_of-d.ensures.0 c.if-k-d.true c.abstractor_of-q.ensures (last_in_body c.requires) c.symbol_of-k.ensures.0 (omega (arith, c.if-k-eq0.false)) (omega (arith, c.symbol_of-k.ensures.0, last_small c.requires.held))))
+end_of-to-requires c = let b = place_inside (last_in_body c.requires) in (b.1, omega (arith, place_inside (last_in_body c.requires), abstractor_before c.depth_of-d.ensures.0 c.if-k-d.true c.abstractor_of-q.ensures (last_in_body c.requires) c.symbol_of-k.ensures.0 (omega (arith, c.if-k-eq0.false)) (omega (arith, c.symbol_of-k.ensures.0, last_small c.requires.held))))
 
 pub put-requires : goal.put-requires
 put-requires c = puttable (last_in_body c.requires) c.symbol_of-k.ensures.0 (omega (arith, c.if-k-eq0.false)) (omega (arith, c.symbol_of-k.ensures.0, last_small c.requires.held)) (domain_inside c.depth_of-d.ensures.0 c.if-k-d.true c.abstractor_of-q.ensures c.height_of-h.ensures.0 c.end_of-to.ensures (place_inside (last_in_body c.requires)).0)

@@ -19,7 +19,7 @@ pub returns-then-unmatched-eq0 : goal.returns-then-unmatched-eq0
 returns-then-unmatched-eq0 c = let w = c.loop-symbol.invariant in passed_partner c.requires w.0 w.1 c.loop-symbol-test.true c.if-symbol-eq-APPLICATOR.false c.if-unmatched-eq0.true
 
 pub end_of-q-requires : goal.end_of-q-requires
-end_of-q-requires c = let b = passing_bounds c.requires c.loop-symbol.invariant.0 in (b.3, b.2, omega arith)
+end_of-q-requires c = let b = passing_bounds c.requires c.loop-symbol.invariant.0 in (b.2, omega arith)
 
 -- The wagon at q is passed, whichever it is: twice, each with a name of its own, which a must-fail edit goes by.
 pub bounds-s-q-in-loop-symbol : goal.bounds-s-q-in-loop-symbol

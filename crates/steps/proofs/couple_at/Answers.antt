@@ -12,7 +12,7 @@ pub bounds-s-p : goal.bounds-s-p
 bounds-s-p c = omega (arith, bounds c.requires)
 
 pub end_of-m-requires : goal.end_of-m-requires
-end_of-m-requires c = bounds c.requires
+end_of-m-requires c = let b = bounds c.requires in (b.1, b.2)
 
 pub abstractor_after-requires : goal.abstractor_after-requires
 abstractor_after-requires c = some_tail c.requires (sym c.symbol_of.ensures.0 ∙ c.if-symbol_of-ne-APPLICATOR.false) c.height_of-h.ensures.0 c.end_of-m.ensures
@@ -21,10 +21,10 @@ pub overflow_add-a : goal.overflow_add-a
 overflow_add-a c = omega (arith, bounds c.requires, partner_inside c.requires (sym c.symbol_of.ensures.0 ∙ c.if-symbol_of-ne-APPLICATOR.false) c.height_of-h.ensures.0 c.end_of-m.ensures c.in-Some.ensures)
 
 pub end_of-q-requires : goal.end_of-q-requires
-end_of-q-requires c = let b = bounds c.requires in (b.0, b.1, omega (arith, partner_inside c.requires (sym c.symbol_of.ensures.0 ∙ c.if-symbol_of-ne-APPLICATOR.false) c.height_of-h.ensures.0 c.end_of-m.ensures c.in-Some.ensures))
+end_of-q-requires c = let b = bounds c.requires in (b.1, omega (arith, partner_inside c.requires (sym c.symbol_of.ensures.0 ∙ c.if-symbol_of-ne-APPLICATOR.false) c.height_of-h.ensures.0 c.end_of-m.ensures c.in-Some.ensures))
 
 pub end_of-e-requires : goal.end_of-e-requires
-end_of-e-requires c = let b = bounds c.requires in (b.0, b.1, c.end_of-q.ensures.inside)
+end_of-e-requires c = let b = bounds c.requires in (b.1, c.end_of-q.ensures.inside)
 
 pub offset_bounds-s-a : goal.offset_bounds-s-a
 offset_bounds-s-a c = omega (arith, bounds c.requires, partner_inside c.requires (sym c.symbol_of.ensures.0 ∙ c.if-symbol_of-ne-APPLICATOR.false) c.height_of-h.ensures.0 c.end_of-m.ensures c.in-Some.ensures)
@@ -41,5 +41,5 @@ returns-in_default-clause-sought c = alone c.requires (sym c.symbol_of.ensures.0
 pub returns : goal.returns
 returns c =
     let f = couple_found c.requires (sym c.symbol_of.ensures.0 ∙ c.if-symbol_of-ne-APPLICATOR.false) c.height_of-h.ensures.0 c.end_of-m.ensures c.in-Some.ensures c.end_of-q.ensures c.end_of-e.ensures
-    (c.narrow.ensures ∙ c.depth_of.ensures.0) (c.narrow-2.ensures ∙ c.depth_of-2.ensures.0) in
+    c.depth_of.ensures.0 c.depth_of-2.ensures.0 in
     record { sought = f; places = found_places c.requires f }

@@ -27,9 +27,9 @@ slice_bounds-lift_to-end c = omega (arith, (use_liftable c.requires (some_use _ 
 
 pub lift_to-requires : goal.lift_to-requires
 lift_to-requires c = let l = use_liftable c.requires (some_use _ _ c.is_use.ensures c.if-not-is_use.false) in
-    rw (c.narrow.ensures, c.depth_of.ensures.0, c.narrow-2.ensures, c.height_of.ensures.0) (l.0, length_part c.args.out.now c.args.j _ l.1 ∙ omega arith)
+    rw (c.depth_of.ensures.0, c.height_of.ensures.0) (l.0, length_part c.args.out.now c.args.j _ l.1 ∙ omega arith)
 
 pub returns : goal.returns
 returns c =
     let e : c.args.j + length (part c.args.s.now (c.args.p + 1) c.args.x.between) - c.args.j ≡ length (part c.args.s.now (c.args.p + 1) c.args.x.between) = omega arith in
-    rw e (use_stored c.requires (some_use _ _ c.is_use.ensures c.if-not-is_use.false) (rw (c.narrow.ensures, c.depth_of.ensures.0, c.narrow-2.ensures, c.height_of.ensures.0) at c.lift_to.ensures))
+    rw e (use_stored c.requires (some_use _ _ c.is_use.ensures c.if-not-is_use.false) (rw (c.depth_of.ensures.0, c.height_of.ensures.0) at c.lift_to.ensures))

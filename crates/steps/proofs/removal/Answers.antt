@@ -3,7 +3,7 @@
 use Rattle.std.proofs.lemmas.Result.{err_from_is_err_and}
 use native.Mathlib.Omega.{arith}
 use Rattle.steps.proofs.Couples.{some_couple, in_scope, search_refused}
-use Rattle.steps.proofs.Storing.{moved_within}
+use Rattle.bodies.proofs.Storing.{moved_within}
 use Rattle.steps.proofs.Removing.{gap_moved, rest_lowered, moved_scope, still, gone}
 use Rattle.steps.proofs.removal.Goals as goal
 

@@ -1,7 +1,8 @@
 -- `steps::rewrite` meets its contract: by the laws of Writing.antt.
 -- Assumes nothing.
 use native.Mathlib.Omega.{arith}
-use Rattle.steps.proofs.Storing.{moved_within, copied_start}
+use Rattle.bodies.proofs.Storing.{moved_within}
+use Rattle.steps.proofs.Storing.{copied_start}
 use Rattle.steps.proofs.Writing.{fillable, gap_movable, movable, copyable, rewritten}
 use Rattle.steps.proofs.rewrite.Goals as goal
 

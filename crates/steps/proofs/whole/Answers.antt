@@ -26,11 +26,11 @@ overflow_sub-most c = omega (arith, K_deep (the_couple c.requires c.couple_at.en
 pub overflow_add-most : goal.overflow_add-most
 overflow_add-most c = omega (arith, K_deep (the_couple c.requires c.couple_at.ensures.sought c.in_ok-x.was) c.deepest.ensures, c.measure-uses.ensures.small)
 
-pub returns-then-most-narrow : goal.returns-then-most-narrow
-returns-then-most-narrow c = deep c.requires c.couple_at.ensures.sought c.in_ok-x.was (size_is (the_couple c.requires c.couple_at.ensures.sought c.in_ok-x.was) (c.wide.ensures ∙ c.measure-uses.ensures.count_is)) (depth_is (the_couple c.requires c.couple_at.ensures.sought c.in_ok-x.was) c.deepest.ensures c.measure-uses.ensures.deepest_is) (omega (arith, c.narrow.ensures, c.if-most-narrow.true))
+pub returns-then-most-len : goal.returns-then-most-len
+returns-then-most-len c = deep c.requires c.couple_at.ensures.sought c.in_ok-x.was (size_is (the_couple c.requires c.couple_at.ensures.sought c.in_ok-x.was) (c.wide.ensures ∙ c.measure-uses.ensures.count_is)) (depth_is (the_couple c.requires c.couple_at.ensures.sought c.in_ok-x.was) c.deepest.ensures c.measure-uses.ensures.deepest_is) (omega (arith, c.if-most-len.true))
 
 pub substitute-requires : goal.substitute-requires
-substitute-requires c = rewritable c.requires c.couple_at.ensures.sought c.in_ok-x.was (size_is (the_couple c.requires c.couple_at.ensures.sought c.in_ok-x.was) (c.wide.ensures ∙ c.measure-uses.ensures.count_is)) (depth_is (the_couple c.requires c.couple_at.ensures.sought c.in_ok-x.was) c.deepest.ensures c.measure-uses.ensures.deepest_is) c.if-kept-size-gt-LONGEST_TERM.false (omega (arith, c.narrow.ensures, c.if-most-narrow.false))
+substitute-requires c = rewritable c.requires c.couple_at.ensures.sought c.in_ok-x.was (size_is (the_couple c.requires c.couple_at.ensures.sought c.in_ok-x.was) (c.wide.ensures ∙ c.measure-uses.ensures.count_is)) (depth_is (the_couple c.requires c.couple_at.ensures.sought c.in_ok-x.was) c.deepest.ensures c.measure-uses.ensures.deepest_is) c.if-kept-size-gt-LONGEST_TERM.false (omega (arith, c.if-most-len.false))
 
 pub returns : goal.returns
-returns c = done c.requires c.couple_at.ensures.sought c.in_ok-x.was (size_is (the_couple c.requires c.couple_at.ensures.sought c.in_ok-x.was) (c.wide.ensures ∙ c.measure-uses.ensures.count_is)) (depth_is (the_couple c.requires c.couple_at.ensures.sought c.in_ok-x.was) c.deepest.ensures c.measure-uses.ensures.deepest_is) c.if-kept-size-gt-LONGEST_TERM.false (omega (arith, c.narrow.ensures, c.if-most-narrow.false)) c.substitute.ensures
+returns c = done c.requires c.couple_at.ensures.sought c.in_ok-x.was (size_is (the_couple c.requires c.couple_at.ensures.sought c.in_ok-x.was) (c.wide.ensures ∙ c.measure-uses.ensures.count_is)) (depth_is (the_couple c.requires c.couple_at.ensures.sought c.in_ok-x.was) c.deepest.ensures c.measure-uses.ensures.deepest_is) c.if-kept-size-gt-LONGEST_TERM.false (omega (arith, c.if-most-len.false)) c.substitute.ensures
