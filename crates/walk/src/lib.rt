@@ -10,7 +10,7 @@ ghost use Rattle.frames.specs.Stored.{record_of, pushed};
 ghost use Rattle.compare.specs.Sides.{Buffers};
 ghost use Rattle.waiting.specs.Writing.{PutAsked, Puts};
 ghost use Rattle.walk.specs.State.{text_of, arrays_of, Stated};
-ghost use Rattle.walk.specs.Clauses.{within, answering, completed_of, past_of, met_of, typed_of, start_of, inner_of, checked_of, TestAs, DueAs, RuleAt, TauTurn, WaitReady, PutAside, WaitTurn, SizesKnown, DepthsKnown, AbstractorAt, Wagons, Known, Turns, InnerAt, Checks, Walkable, WholeAnswer, WalkAnswer};
+ghost use Rattle.walk.specs.Clauses.{within, answering, completed_of, past_of, met_of, typed_of, start_of, inner_of, checked_of, TestAs, DueAs, RuleAt, TauTurn, WaitReady, PutAside, WaitTurn, SizesKnown, DepthsKnown, AbstractorAt, Wagons, Known, Turns, InnerAt, Checks, Walkable, longest_list, WholeAnswer, WalkAnswer};
 
 use code::numbers::{
     ACCEPTED, LONGEST_STATE, LONGEST_TERM, MOST_ABSTRACTORS, NEVER, OUTGROWN, STILL_WAITING,
@@ -28,6 +28,11 @@ pub const LIST_FULL: u32 = 254;
 pub const LONGEST_LIST: usize = 36864;
 
 const USUAL_LIST: usize = 12288;
+
+// Most terms are no longer, and little of theirs waits.
+const SHORT_TERM: usize = 256;
+
+const SHORT_LIST: usize = 768;
 
 // What a walk answers: 0 or the number and the place of what stops it, the comparisons completed, where the next group is, and the
 // ground. For 8 this is how many wait; for 10 and 12 it is what `compare` says; else 0 0 0.
@@ -750,74 +755,52 @@ fn inside(
     )
 }
 
-// The whole term, with the sizes and scopes of its text, and a list.
-fn whole(
+// The whole term, of at most TERM bytes, with a list of LIST numbers.
+fn whole<const TERM: usize, const LIST: usize>(
     file: &[u8],
     t: &[u8],
     at: usize,
-    sizes: &mut [u16],
-    scopes: &mut [u16],
-    depths: &mut [u8],
-    list: &mut [u16],
     left: &mut Letters,
     right: &mut Letters,
 ) -> Walked
-    requires { Walkable file.now t.now at × (length t.now ≤ length sizes.old) × (length t.now ≤ length scopes.old) × Buffers left.old right.old × (length t.now ≤ length depths.old) }
-    ensures { WholeAnswer file.now t.now at (length list.old) left.new right.new result × Buffers left.new right.new }
+    requires { Walkable file.now t.now at × Buffers left.old right.old × (length t.now ≤ TERM) × (TERM ≤ longest_term) × (LIST ≤ longest_list) }
+    ensures { WholeAnswer file.now t.now at LIST left.new right.new result × Buffers left.new right.new }
 {
+    let mut sizes = [0u16; TERM];
+    let mut scopes = [0u16; TERM];
+    let mut depths = [0u8; TERM];
+    let mut list = [0u16; LIST];
     let mut memory = Memory {
         work: [0; LONGEST_STATE],
         domains: [0; MOST_ABSTRACTORS],
         origins: [0; MOST_ABSTRACTORS],
         reach: 0,
     };
-    measure(t, left, sizes, scopes, depths);
+    measure(t, left, &mut sizes[..], &mut scopes[..], &mut depths[..]);
     let text = Measured {
         term: t,
-        sizes,
-        scopes,
-        depths,
+        sizes: &sizes[..],
+        scopes: &scopes[..],
+        depths: &depths[..],
     };
     let f = empty_frame();
-    term(file, &text, &mut memory, list, left, right, &f, 0, 0, at, 0)
-}
-
-// The whole of a short term, in arrays of its own: it does not spend its time on clearing large ones. They may be too short for what
-// waits in copied text.
-fn short(file: &[u8], t: &[u8], at: usize, left: &mut Letters, right: &mut Letters) -> Walked
-    requires { Walkable file.now t.now at × Buffers left.old right.old }
-    ensures { WholeAnswer file.now t.now at 768 left.new right.new result × Buffers left.new right.new }
-{
-    if t.len() > 256 {
-        return Walked {
-            number: LIST_FULL,
-            place: 0,
-            comparisons: 0,
-            next: at,
-            first: 0,
-            second: 0,
-            third: 0,
-        };
-    }
-    let mut sizes: [u16; 256] = [0; 256];
-    let mut scopes: [u16; 256] = [0; 256];
-    let mut depths: [u8; 256] = [0; 256];
-    let mut list: [u16; 768] = [0; 768];
-    whole(
+    term(
         file,
-        t,
-        at,
-        &mut sizes[..],
-        &mut scopes[..],
-        &mut depths[..],
+        &text,
+        &mut memory,
         &mut list[..],
         left,
         right,
+        &f,
+        0,
+        0,
+        at,
+        0,
     )
 }
 
 // The check of the term t with the groups of the file that stand from `at` on. After it the two lent arrays hold the bodies of the
-// last comparison.
+// last comparison. A short term does not spend its time on clearing large arrays; its list may be too short for what waits in copied text.
 pub fn walk_term(
     file: &[u8],
     t: &[u8],
@@ -828,38 +811,15 @@ pub fn walk_term(
     requires { Walkable file.now t.now at × Buffers left.old right.old }
     ensures { WalkAnswer file.now t.now at left.new right.new result × Buffers left.new right.new }
 {
-    let r = short(file, t, at, left, right);
-    if r.number != LIST_FULL {
-        return r;
+    if t.len() <= SHORT_TERM {
+        let r = whole::<SHORT_TERM, SHORT_LIST>(file, t, at, left, right);
+        if r.number != LIST_FULL {
+            return r;
+        }
     }
-    let mut sizes: [u16; LONGEST_TERM] = [0; LONGEST_TERM];
-    let mut scopes: [u16; LONGEST_TERM] = [0; LONGEST_TERM];
-    let mut depths: [u8; LONGEST_TERM] = [0; LONGEST_TERM];
-    let mut list: [u16; USUAL_LIST] = [0; USUAL_LIST];
-    let q = whole(
-        file,
-        t,
-        at,
-        &mut sizes[..],
-        &mut scopes[..],
-        &mut depths[..],
-        &mut list[..],
-        left,
-        right,
-    );
+    let q = whole::<LONGEST_TERM, USUAL_LIST>(file, t, at, left, right);
     if q.number != LIST_FULL {
         return q;
     }
-    let mut long: [u16; LONGEST_LIST] = [0; LONGEST_LIST];
-    whole(
-        file,
-        t,
-        at,
-        &mut sizes[..],
-        &mut scopes[..],
-        &mut depths[..],
-        &mut long[..],
-        left,
-        right,
-    )
+    whole::<LONGEST_TERM, LONGEST_LIST>(file, t, at, left, right)
 }
