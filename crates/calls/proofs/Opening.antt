@@ -1,38 +1,38 @@
 -- What the parts of `examine_file` make of its answer.
 -- Assumes nothing.
 use Prim.Native.Nat.{ℕ}
-use mathlib.Core.Path.{◌≡◌, refl, ap, sym, ◌∙◌}
+use mathlib.Core.Path.{◌≡◌, refl, ap, ◌∙◌}
 use mathlib.Core.List.{List, []}
-use Rattle.fields.specs.Fields.{read_file, term_bytes, layout_of}
-use Rattle.fields.specs.Fields.{Layout}
+use native.Mathlib.Omega.{arith}
+use Rattle.std.proofs.Common.{Ok, Err}
+use Rattle.code.specs.Refusals.{number_of}
+use Rattle.code.specs.declared.refusal.Refusal.{Refusal}
+use Rattle.code.proofs.Refusals.{refusal_number}
+use Rattle.fields.specs.Fields.{read_file, term_bytes, layout_of, layout_says}
 use Rattle.fields.proofs.Groups.{if_accepted, if_refused, accepts}
-use Rattle.examine.specs.Inspect.{Examined, examined, term_answer_of, term_answer}
-use Rattle.examine.specs.declared.TermAnswer.{TermAnswer}
-use Rattle.examine.proofs.Laws.{refused_answer, number_zero}
-use Rattle.files.specs.File.{Opened, refused, opened, open_term, open_fields, open_file, file_answer_of, file_answer}
-use Rattle.calls.specs.Answers.{FileAnswered}
+use Rattle.fields.specs.declared.Layout as declared
+use Rattle.examine.specs.Inspect.{examined, term_answer, term_says}
+use Rattle.examine.proofs.Laws.{accepted_answer, refused_answer}
+use Rattle.files.specs.File.{FileAnswer, Opened, open_term, open_fields, open_file, file_answer_of, file_answer}
 
-answered : (s : List ℕ) (o : Opened) {n p : ℕ} {part : List ℕ} → open_file s ≡ o → FileAnswered n p part (file_answer_of s o) → FileAnswered n p part (file_answer s)
+-- The answer, where it is known what opening finds.
+answered : (s : List ℕ) {o : Opened} {a : FileAnswer} → open_file s ≡ o → a ≡ file_answer_of s o → a ≡ file_answer s
 unfolding file_answer
-answered s o h a = rw h a
+answered s h e = rw h e
 
-module _ (s : List ℕ) {r : Layout} (is : r ≡ layout_of (read_file s)) where
-  pub fields_refused : (r.number ≡ 0 → ⊥) → FileAnswered r.number r.place [] (file_answer s)
-  unfolding open_file open_fields file_answer_of
-  fields_refused z = answered s (refused r.number r.place) (ap (open_fields s) (if_refused s is z).0) (record { number_is = refl; place_is = refl; part_is = refl })
+pub fields_refused : (s : List ℕ) (x : Refusal) → layout_says (Err x) ≡ layout_of (read_file s) → record { number = number_of x.condition; place = x.place; part = [] } ≡ file_answer s
+unfolding open_file open_fields file_answer_of
+fields_refused s x is = answered s (ap (open_fields s) (if_refused s is (λ z. omega (arith, refusal_number x.condition))).0) refl
 
-  module _ (zero : r.number ≡ 0) {a : TermAnswer} (term_is : a ≡ term_answer (term_bytes s r.end)) where
-    opened_term : open_file s ≡ open_term r.end (if_accepted s is zero).list (examined (term_bytes s r.end))
-    unfolding open_file open_fields
-    opened_term = ap (open_fields s) (accepts (if_accepted s is zero).is)
+module _ (s : List ℕ) (l : declared.Layout) (is : layout_says (Ok l) ≡ layout_of (read_file s)) where
+  opened_term : open_file s ≡ open_term l.end (if_accepted s is refl).list (examined (term_bytes s l.end))
+  unfolding open_file open_fields
+  opened_term = ap (open_fields s) (accepts (if_accepted s is refl).is)
 
-    pub term_refused : (a.number ≡ 0 → ⊥) → FileAnswered a.number a.place [] (file_answer s)
-    unfolding open_term file_answer_of
-    term_refused z = answered s (refused a.number a.place) (opened_term ∙ ap (open_term r.end _) (refused_answer (term_bytes s r.end) term_is z).0) (record { number_is = refl; place_is = refl; part_is = refl })
+  pub term_refused : (x : Refusal) → term_says (Err x) ≡ term_answer (term_bytes s l.end) → record { number = number_of x.condition; place = x.place; part = [] } ≡ file_answer s
+  unfolding open_term file_answer_of
+  term_refused x q = answered s (opened_term ∙ ap (open_term l.end _) (refused_answer (term_bytes s l.end) x q)) refl
 
-    pub term_accepted : a.number ≡ 0 → FileAnswered a.number a.place (term_bytes s r.end) (file_answer s)
-    unfolding open_term file_answer_of term_answer term_answer_of
-    term_accepted z =
-        let t = number_zero (term_bytes s r.end) (ap (λ (x : TermAnswer). x.number) (sym term_is) ∙ z) in
-        let p : a.place ≡ 0 = ap (λ (x : TermAnswer). x.place) term_is ∙ ap (λ (x : Examined). (term_answer_of x).place) t.1 in
-        answered s (opened t.0 r.end (if_accepted s is zero).list) (opened_term ∙ ap (open_term r.end _) t.1) (record { number_is = z; place_is = p; part_is = refl })
+  pub term_accepted : (d : ℕ) → term_says (Ok d) ≡ term_answer (term_bytes s l.end) → record { number = 0; place = 0; part = term_bytes s l.end } ≡ file_answer s
+  unfolding open_term file_answer_of
+  term_accepted d q = answered s (opened_term ∙ ap (open_term l.end _) (accepted_answer (term_bytes s l.end) q).is) refl

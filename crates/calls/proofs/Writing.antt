@@ -29,15 +29,14 @@ use Rattle.bodies.specs.Held.{Held, SomeHeld, Form, FormAs, form_outgrown, form_
 use Rattle.bodies.specs.Held as bodies
 use Rattle.bodies.specs.declared.Reason.{Reason}
 use Rattle.bodies.specs.declared.StepError.TheVariants.{NotPossible, Outgrown}
-use Rattle.examine.specs.Inspect.{refused, accepted, examined, term_answer}
-use Rattle.examine.specs.declared.TermAnswer.{TermAnswer}
+use Rattle.examine.specs.Inspect.{refused, accepted, examined, term_answer, term_says}
 use Rattle.examine.specs.Claims.{WellFormed}
-use Rattle.examine.proofs.Laws.{examining_holds, number_zero}
+use Rattle.examine.proofs.Laws.{examining_holds, accepted_answer}
 use Rattle.calls.specs.Answers.{Written, nothing, answer, handed, written, type_written, type_answer_of, type_answer, step_written, step_answer_of, step_answer, AcceptedTerm, OpenedBody, InLetters}
 
 -- ---- A term that is accepted, as letters.
-pub accepted_term : (s : List ℕ) {r : TermAnswer} → r ≡ term_answer s → r.number ≡ 0 → AcceptedTerm s
-accepted_term s q e = let p = number_zero s (rw q at e) in record { term = p.0; accepts = p.1 }
+pub accepted_term : (s : List ℕ) (d : ℕ) → term_says (Ok d) ≡ term_answer s → AcceptedTerm s
+accepted_term s d q = let a = accepted_answer s q in record { term = a.term; accepts = a.is }
 
 pub accepts : {s : List ℕ} {t : Term} → Bytes s → examined s ≡ accepted t → WellFormed s t
 accepts {s} {t} y = (examining_holds.accepts s t y).0

@@ -1,6 +1,7 @@
 -- The answers of the calls 'write a term's type' and 'apply one step' (document 01), with what each leaves in the lent buffer.
 -- Assumes nothing.
-use Rattle.std.specs.Prelude.{ℕ, cond, ◌≡◌, List, leb, length}
+use Rattle.std.specs.Prelude as prelude
+use Rattle.std.specs.Prelude.{Some, None, Result, Ok, Err, ℕ, cond, ◌≡◌, List, [], leb, length}
 use Rattle.std.proofs.Math.Option.{Option, none, some}
 use Rattle.std.proofs.lemmas.List.Edits.{sets}
 use Rattle.calculus.specs.Terms.{Term}
@@ -9,7 +10,8 @@ use Rattle.calculus.specs.Types.{type}
 use Rattle.calculus.specs.Steps.{Step, Outcome, step}
 use Rattle.calculus.specs.Steps as calculus
 use Rattle.code.specs.Limits.{longest_term}
-use Rattle.code.specs.Refusals.{step_not_possible, outgrown, buffer_too_short}
+use Rattle.code.specs.declared.refusal.Refusal.{Refusal}
+use Rattle.code.specs.Refusals.{step_not_possible, outgrown, buffer_too_short, number_of}
 use Rattle.code.specs.Refusals as refusals
 use Rattle.code.specs.Code.{encode}
 use Rattle.examine.specs.Inspect.{Examined, refused, accepted, examined}
@@ -19,15 +21,11 @@ use Rattle.letters.specs.Letters.{Lies}
 use Rattle.bodies.specs.Held.{Held}
 use Rattle.verdict.specs.Bounds.{body_fits}
 use Rattle.files.specs.File.{FileAnswer}
-use Rattle.calls.specs.declared.StepAnswer.{StepAnswer}
-use Rattle.calls.specs.declared.TypeAnswer.{TypeAnswer}
-use Rattle.calls.specs.declared.TypeAnswer.TheVariants.{Nothing, Answer}
 
--- The call 'examine a file': the number and place that it wrote, and the part that it handed back.
-pub record FileAnswered (number place : ℕ) (part : List ℕ) (a : FileAnswer) : Type 0 where
-  pub number_is : number ≡ a.number
-  pub place_is : place ≡ a.place
-  pub part_is : part ≡ a.part
+-- What each case of the answer of `examine_file` says: the part handed back holds the bytes that `bytes` gives, and a refusal hands back none.
+abbrev pub file_says : {A : Type 0} → (A → List ℕ) → Result A Refusal → FileAnswer
+file_says bytes (Ok part) = record { number = refusals.accepted; place = 0; part = bytes part }
+file_says bytes (Err r) = record { number = number_of r.condition; place = r.place; part = [] }
 
 -- An answer and the buffer after it: 'none', or number, place and the length written.
 pub data Written : Type 0 where
@@ -69,13 +67,15 @@ unfoldable pub step_answer : List ℕ → Step → List ℕ → Written
 unfolding step_answer_of step_written written examined
 step_answer s x out = step_answer_of out x (examined s)
 
--- The answers of the code, with the buffer as it is left, as document 01 has them.
-abbrev pub type_says : TypeAnswer → List ℕ → Written
-type_says Nothing out = nothing out
-type_says (Answer n p k) out = answer n p k out
+-- The answers of the code, with the buffer as it is left, as document 01 has them: for `write_type` no length is 'none'.
+abbrev pub step_says : Result ℕ Refusal → List ℕ → Written
+step_says (Ok n) out = answer refusals.accepted 0 n out
+step_says (Err r) out = answer (number_of r.condition) r.place 0 out
 
-abbrev pub step_says : StepAnswer → List ℕ → Written
-step_says r out = answer r.number r.place r.length out
+abbrev pub type_says : Result (prelude.Option ℕ) Refusal → List ℕ → Written
+type_says (Ok None) out = nothing out
+type_says (Ok (Some n)) out = answer refusals.accepted 0 n out
+type_says (Err r) out = answer (number_of r.condition) r.place 0 out
 
 -- Some term is accepted.
 pub record AcceptedTerm (s : List ℕ) : Type 0 where

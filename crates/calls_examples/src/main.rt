@@ -2,6 +2,7 @@
 // filled with aa; of a page the text. differential/src/named.rs has the examples and the edges.
 #![tactic(auto)]
 
+use code::refusal::Refusal;
 use std::io;
 
 fn bytes(rt: &impl Print, s: &[u8]) -> io::Result<()> {
@@ -12,19 +13,26 @@ fn bytes(rt: &impl Print, s: &[u8]) -> io::Result<()> {
     println!(rt; "")
 }
 
+// Number, place, and what was found: a degree or a length.
+fn numbers(rt: &impl Print, answer: Result<usize, Refusal>) -> io::Result<()> {
+    match answer {
+        Ok(found) => print!(rt; " 0 0 {found}"),
+        Err(refusal) => print!(rt; " {refusal} 0"),
+    }
+}
+
 fn examine_term(rt: &impl Print, s: &[u8]) -> io::Result<()> {
-    let r = examine::examine_term(s);
-    let (number, place, degree) = (r.number, r.place, r.degree);
-    println!(rt; "examine a term: {number} {place} {degree}")
+    print!(rt; "examine a term:")?;
+    numbers(rt, examine::examine_term(s))?;
+    println!(rt; "")
 }
 
 // The term is handed back as a part of the caller's own bytes.
 fn examine_file(rt: &impl Print, s: &[u8]) -> io::Result<()> {
-    let mut number: u32 = 0;
-    let mut place: usize = 0;
-    let part = calls::examine_file(s, &mut number, &mut place);
-    let length = part.len();
-    print!(rt; "examine a file: {number} {place} {length}")?;
+    let r = calls::examine_file(s);
+    let part = r.unwrap_or(&[]);
+    print!(rt; "examine a file:")?;
+    numbers(rt, r.map(|part| part.len()))?;
     bytes(rt, part)
 }
 
@@ -32,11 +40,9 @@ fn write_type(rt: &impl Print, s: &[u8]) -> io::Result<()> {
     let mut out: [u8; 8] = [0xaa; 8];
     let r = calls::write_type(s, &mut out);
     print!(rt; "write a type:")?;
-    match r {
-        calls::TypeAnswer::Nothing => print!(rt; " none")?,
-        calls::TypeAnswer::Answer(number, place, length) => {
-            print!(rt; " {number} {place} {length}")?;
-        }
+    match r.transpose() {
+        None => print!(rt; " none")?,
+        Some(written) => numbers(rt, written)?,
     }
     bytes(rt, &out)
 }
@@ -44,17 +50,18 @@ fn write_type(rt: &impl Print, s: &[u8]) -> io::Result<()> {
 fn apply_step(rt: &impl Print, s: &[u8], kind: u8, place: u16) -> io::Result<()> {
     let mut out: [u8; 8] = [0xaa; 8];
     let r = calls::apply_step(s, kind, place, &mut out);
-    let (number, at, length) = (r.number, r.place, r.length);
-    print!(rt; "apply a step: {number} {at} {length}")?;
+    print!(rt; "apply a step:")?;
+    numbers(rt, r)?;
     bytes(rt, &out)
 }
 
 fn print_term(rt: &impl Print, s: &[u8]) -> io::Result<()> {
     let mut out: [u8; 73] = [0xaa; 73];
     let r = printing::print_term(s, &mut out);
-    let (number, place, length) = (r.number, r.place, r.length);
-    println!(rt; "print a term: {number} {place} {length}")?;
-    if number == 0 {
+    print!(rt; "print a term:")?;
+    numbers(rt, r)?;
+    println!(rt; "")?;
+    if r.is_ok() {
         rt.write_all(&out)?;
     }
     Ok(())

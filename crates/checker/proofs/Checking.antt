@@ -16,11 +16,13 @@ use Rattle.fields.specs.Fields.{GroupAt, Groups, done, more, read_file, term_byt
 use Rattle.fields.specs.Claims.{HasFields}
 use Rattle.fields.specs.Fields.{Layout}
 use Rattle.fields.proofs.Groups.{if_accepted, if_refused, accepts, accepted_only, none_left, room}
-use Rattle.examine.specs.Inspect.{Examined, examined, term_answer_of, term_answer}
-use Rattle.examine.specs.Inspect as term
+use Rattle.std.proofs.Common.{Ok, Err}
+use Rattle.code.specs.Refusals.{number_of}
+use Rattle.code.specs.declared.refusal.Refusal.{Refusal}
+use Rattle.code.proofs.Refusals.{refusal_number}
+use Rattle.examine.specs.Inspect.{examined, term_says, term_answer}
 use Rattle.examine.specs.Claims.{WellFormed}
-use Rattle.examine.specs.declared.TermAnswer.{TermAnswer}
-use Rattle.examine.proofs.Laws.{examining_holds}
+use Rattle.examine.proofs.Laws.{examining_holds, accepted_answer, refused_answer}
 use Rattle.verdict.specs.Verdict.{Progress, Run, passed, stopped, check_term}
 use Rattle.verdict.proofs.Promises.{passing}
 use Rattle.files.specs.File.{Opened, refused, opened, open_term, open_fields, open_file}
@@ -45,16 +47,20 @@ module _ (s : List ℕ) {r : Layout} (is : r ≡ layout_of (read_file s)) where
   unfolding open_file open_fields
   fields_refused z = opened_as s (ap (open_fields s) (if_refused s is z).0) (open_refused z)
 
-  pub term_opened : r.number ≡ 0 → {a : TermAnswer} → a ≡ term_answer (term_bytes s r.end) → OpenedAs (record { number = a.number; place = a.place; end = r.end; degree = a.degree }) (open_file s)
-  unfolding open_file open_fields open_term term_answer term_answer_of
-  term_opened z {a} e = go (examined (term_bytes s r.end)) refl
-    where
-      is_open : open_file s ≡ open_term r.end (if_accepted s is z).list (examined (term_bytes s r.end))
-      is_open = ap (open_fields s) (accepts (if_accepted s is z).is)
+  module _ (z : r.number ≡ 0) where
+    is_open : open_file s ≡ open_term r.end (if_accepted s is z).list (examined (term_bytes s r.end))
+    unfolding open_file open_fields
+    is_open = ap (open_fields s) (accepts (if_accepted s is z).is)
 
-      go : (x : Examined) → examined (term_bytes s r.end) ≡ x → OpenedAs (record { number = a.number; place = a.place; end = r.end; degree = a.degree }) (open_file s)
-      go (term.refused n p) h = opened_as s (is_open ∙ ap (open_term r.end (if_accepted s is z).list) h) (rw (e, h) (open_refused (λ q. omega (arith, examining_holds.numbers (term_bytes s r.end) h))))
-      go (term.accepted t) h = opened_as s (is_open ∙ ap (open_term r.end (if_accepted s is z).list) h) (rw (e, h) (opened_term refl refl))
+    pub term_refused : (x : Refusal) → term_says (Err x) ≡ term_answer (term_bytes s r.end) → OpenedAs (record { number = number_of x.condition; place = x.place; end = r.end; degree = 0 }) (open_file s)
+    unfolding open_term
+    term_refused x q = opened_as s (is_open ∙ ap (open_term r.end (if_accepted s is z).list) (refused_answer (term_bytes s r.end) x q)) (open_refused (λ e. omega (arith, refusal_number x.condition)))
+
+    pub term_opened : (d : ℕ) → term_says (Ok d) ≡ term_answer (term_bytes s r.end) → OpenedAs (record { number = 0; place = 0; end = r.end; degree = d }) (open_file s)
+    unfolding open_term
+    term_opened d q =
+        let a = accepted_answer (term_bytes s r.end) q in
+        opened_as s (is_open ∙ ap (open_term r.end (if_accepted s is z).list) a.is) (opened_term refl a.degree_is)
 
 -- what refuses it, or that it opens
 pub refused_is : {r : OpenAnswer} (s : List ℕ) → OpenedAs r (open_file s) → (r.number ≡ 0 → ⊥) → open_file s ≡ refused r.number r.place

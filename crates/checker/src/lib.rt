@@ -45,12 +45,19 @@ pub fn open_file(s: &[u8]) -> OpenAnswer
         }
     };
     let part = fields::term_part(s, end);
-    let term = examine::examine_term(part);
-    OpenAnswer {
-        number: term.number,
-        place: term.place,
-        end,
-        degree: term.degree,
+    match examine::examine_term(part) {
+        Ok(degree) => OpenAnswer {
+            number: 0,
+            place: 0,
+            end,
+            degree,
+        },
+        Err(refusal) => OpenAnswer {
+            number: u32::from(refusal.condition),
+            place: refusal.place,
+            end,
+            degree: 0,
+        },
     }
 }
 

@@ -13,14 +13,17 @@ use borrow.Author.Tests.{ltb-true, leb-true, lt-ltb, le-ltb, le-leb, lt-leb, eq-
 use Rattle.calculus.specs.Terms.{Term, tau, var, app, abs, size, Closed, closed_tau, closed_var, closed_app, closed_abs}
 use Rattle.calculus.specs.Frames.{ε}
 use Rattle.calculus.specs.Types.{degree}
+use Rattle.std.proofs.Common.{Ok, Err}
 use Rattle.code.specs.Limits.{longest_term, most_abstractors}
+use Rattle.code.specs.Refusals.{number_of}
+use Rattle.code.specs.declared.refusal.Refusal.{Refusal}
 use Rattle.code.specs.Code.{Bytes, decode, term_end}
 use Rattle.code.specs.Scope.{scope}
+use Rattle.code.proofs.Refusals.{refusal_number}
 use Rattle.code.proofs.RoundTrip.{length_encode, odd, encode_decode}
 use Rattle.code.proofs.FirstZero.{whole}
 use Rattle.code.proofs.Scope.{closed_coded}
-use Rattle.examine.specs.Inspect.{Fault, no_fault, beyond, deep, leftmost, index_fault, scope_fault, inspect, Examined, refused, accepted, judged, decoded, ended, examined, term_answer_of, term_answer}
-use Rattle.examine.specs.declared.TermAnswer.{TermAnswer}
+use Rattle.examine.specs.Inspect.{Fault, no_fault, beyond, deep, leftmost, index_fault, scope_fault, inspect, Examined, refused, accepted, judged, decoded, ended, examined, TermAnswer, term_answer_of, term_answer, term_says}
 use Rattle.examine.specs.Claims.{WellFormed, Examining, repeated, Examples}
 
 -- ---- No fault.
@@ -134,6 +137,10 @@ pub answered : (s : List ℕ) {x : Examined} {r : TermAnswer} → examined s ≡
 unfolding term_answer
 answered s e q = q ∙ ap term_answer_of (sym e)
 
+pub refuses : (s : List ℕ) (r : Refusal) → examined s ≡ refused (number_of r.condition) r.place → term_says (Err r) ≡ term_answer s
+unfolding term_says term_answer_of
+refuses s r e = answered s e refl
+
 -- ---- What is accepted.
 module _ {t : Term} where
   from_judged : (f : Fault) (u : Term) → judged f u ≡ accepted t → (f ≡ no_fault) × (u ≡ t)
@@ -213,26 +220,27 @@ number_zero s e = go (examined s) refl e
     go (refused n p) q z = absurd (omega (arith, (numbers s q).0))
     go (accepted t) q z = (t, refl)
 
--- For a caller of `examine_term`: what its answer r says.
-pub record Accepting (s : List ℕ) (r : TermAnswer) : Type 0 where
+-- For a caller of `examine_term`: what its answer says.
+pub record Accepting (s : List ℕ) (d : ℕ) : Type 0 where
   pub term : Term
-  pub accepts : WellFormed s term
-  pub degree_is : r.degree ≡ degree ε term
+  pub is : examined s ≡ accepted term
+  pub degree_is : d ≡ degree ε term
 
-pub accepted_answer : (s : List ℕ) {r : TermAnswer} → Bytes s → r ≡ term_answer s → r.number ≡ 0 → Accepting s r
-unfolding term_answer term_answer_of
-accepted_answer s {r} w q e =
-    let n : (term_answer s).number ≡ 0 = rw q at e in
-    let p = number_zero s n in
-    record { term = p.0; accepts = from_accepted s w p.1; degree_is = rw (q, p.1) }
-
-pub refused_answer : (s : List ℕ) {r : TermAnswer} → r ≡ term_answer s → (r.number ≡ 0 → ⊥) → (examined s ≡ refused r.number r.place) × (r.degree ≡ 0)
-unfolding term_answer term_answer_of
-refused_answer s {r} q n = go (examined s) q
+pub accepted_answer : (s : List ℕ) {d : ℕ} → term_says (Ok d) ≡ term_answer s → Accepting s d
+unfolding term_says term_answer term_answer_of
+accepted_answer s {d} q = go (examined s) refl q
   where
-    go : (x : Examined) → r ≡ term_answer_of x → (x ≡ refused r.number r.place) × (r.degree ≡ 0)
-    go (refused a b) e = (rw e, rw e)
-    go (accepted t) e = absurd (n (rw e))
+    go : (x : Examined) → examined s ≡ x → term_says (Ok d) ≡ term_answer_of x → Accepting s d
+    go (refused n p) h e = let z : ◌≡◌ {A = ℕ} 0 n = ap (λ (a : TermAnswer). a.number) e in absurd (omega (arith, (numbers s h).0))
+    go (accepted t) h e = record { term = t; is = h; degree_is = ap (λ (a : TermAnswer). a.degree) e }
+
+pub refused_answer : (s : List ℕ) (r : Refusal) → term_says (Err r) ≡ term_answer s → examined s ≡ refused (number_of r.condition) r.place
+unfolding term_says term_answer term_answer_of
+refused_answer s r q = go (examined s) refl q
+  where
+    go : (x : Examined) → examined s ≡ x → term_says (Err r) ≡ term_answer_of x → x ≡ refused (number_of r.condition) r.place
+    go (refused n p) h e = ap (λ (a : TermAnswer). refused a.number a.place) (sym e)
+    go (accepted t) h e = let z : ◌≡◌ {A = ℕ} (number_of r.condition) 0 = ap (λ (a : TermAnswer). a.number) e in absurd (omega (arith, refusal_number r.condition))
 
 even : (s : List ℕ) → Bytes s → length s ≡ longest_term → (p : ℕ) × (examined s ≡ refused 3 p)
 even s w l = go (term_end s 0) refl

@@ -11,7 +11,10 @@ use lib.Seq.{get_or-set_same, get_or-set_other}
 use borrow.Author.Tests.{lt-ltb, le-ltb}
 use Rattle.calculus.specs.Terms.{Term, size}
 use Rattle.calculus.specs.Types.{nth, degree_in}
+use Rattle.std.proofs.Common.{Result, Ok, Err}
 use Rattle.code.specs.Limits.{most_abstractors}
+use Rattle.code.specs.Refusals.{number_of}
+use Rattle.code.specs.declared.refusal.Refusal.{Refusal}
 use Rattle.code.specs.Claims.{Stands}
 use Rattle.code.proofs.Parts.{stands_start, stands_end, Head, head_tau, head_var, head_app, head_abs, head}
 use Rattle.examine.specs.Inspect.{Fault, no_fault, beyond, deep, leftmost, inspect, refused, judged}
@@ -138,22 +141,21 @@ module _ {s : List ℕ} {i j d : ℕ} where
   deep_here G (head_abs b h k) l q = rw (le-ltb d most_abstractors q)
 
   -- a fault here is the leftmost
-  pub refused_here : {t : Term} {F : Fault} {r : ℕ} (G : Fault) (u : Term) → Head s i j t → F ≡ leftmost (inspect d i t) G → ByteFault (get_or s i 0) d r → (r ≡ 0 → ⊥)
-      → judged F u ≡ refused r i
+  pub refused_here : {t : Term} {F : Fault} {r : Refusal} (G : Fault) (u : Term) → Head s i j t → F ≡ leftmost (inspect d i t) G → ByteFault (get_or s i 0) d i (Err r)
+      → judged F u ≡ refused (number_of r.condition) r.place
   unfolding judged
-  refused_here G u w f (passes x y) n = absurd (n refl)
-  refused_here G u w f (index_beyond x y) n = rw (f, beyond_here G w x y)
-  refused_here G u w f (too_deep x y) n = rw (f, deep_here G w x y)
+  refused_here G u w f (index_beyond x y) = rw (f, beyond_here G w x y)
+  refused_here G u w f (too_deep x y) = rw (f, deep_here G w x y)
 
-pub tested_index : {b d r : ℕ} → ByteFault b d r → r ≡ 0 → b < 0xfe → b ≤ d
+pub tested_index : {b d i : ℕ} {r : Result (Unit {0}) Refusal} {u : Unit {0}} → ByteFault b d i r → r ≡ Ok u → b < 0xfe → b ≤ d
 tested_index (passes x y) e = x
-tested_index (index_beyond x y) e = absurd (omega arith)
-tested_index (too_deep x y) e = absurd (omega arith)
+tested_index (index_beyond x y) e = absurd cc
+tested_index (too_deep x y) e = absurd cc
 
-pub tested_scope : {b d r : ℕ} → ByteFault b d r → r ≡ 0 → b ≡ 0xff → d < most_abstractors
+pub tested_scope : {b d i : ℕ} {r : Result (Unit {0}) Refusal} {u : Unit {0}} → ByteFault b d i r → r ≡ Ok u → b ≡ 0xff → d < most_abstractors
 tested_scope (passes x y) e = y
-tested_scope (index_beyond x y) e = absurd (omega arith)
-tested_scope (too_deep x y) e = absurd (omega arith)
+tested_scope (index_beyond x y) e = absurd cc
+tested_scope (too_deep x y) e = absurd cc
 
 -- The arrays as they are after the turn: the byte at i stands in d scopes, and n terms follow the one that it starts.
 module _ {s outside opens degrees : List ℕ} {g n e i j d last last' count : ℕ} (p : get_or outside n 0 ≡ d) (q : get_or outside (suc n) 0 ≡ d) (z : get_or opens (suc n) 0 ≡ 0)
@@ -181,8 +183,8 @@ module _ {s outside opens degrees : List ℕ} {g n e i j d last last' count : �
       (push d 1 (suc d) p (pt.abstractor b) (omega arith) (omega arith) (omega arith) (omega arith) k refl (wider d ed v)))
 
 -- A turn, as the code makes it.
-module _ {s outside opens degrees : List ℕ} {g n m i last last' r count x : ℕ} {F : Fault} (room : suc n < length outside) (room' : suc n < length opens) (big : most_abstractors < length degrees)
-    (ts : ByteFault (get_or s i 0) (get_or outside n 0 + get_or opens n 0) r) (ok : r ≡ 0)
+module _ {s outside opens degrees : List ℕ} {g n m i last last' count x : ℕ} {F : Fault} {r : Result (Unit {0}) Refusal} {u : Unit {0}} (room : suc n < length outside) (room' : suc n < length opens) (big : most_abstractors < length degrees)
+    (ts : ByteFault (get_or s i 0) (get_or outside n 0 + get_or opens n 0) i r) (ok : r ≡ Ok u)
     (gr : Graded (set degrees (get_or outside n 0) last) (get_or s i 0) (get_or outside n 0 + get_or opens n 0) last last') (pt : Parts (get_or s i 0) count x) where
   pub turned : Pending s outside opens degrees g (suc n) m i last F
       → Pending s (set (set outside n (get_or outside n 0 + get_or opens n 0)) (suc n) (get_or outside n 0 + get_or opens n 0)) (set (set opens n x) (suc n) 0)

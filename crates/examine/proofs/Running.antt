@@ -12,14 +12,16 @@ use lib.Seq.{get_or-set_same, get_or-set_other}
 use borrow.Author.Tests.{ltb-true, ltb-false, eqb-true, eqb-false}
 use Rattle.calculus.specs.Terms.{Term, size}
 use Rattle.calculus.specs.Types.{degree_in}
+use Rattle.std.proofs.Common.{Result, Ok, Err}
 use Rattle.code.specs.Limits.{longest_term, most_abstractors}
+use Rattle.code.specs.Refusals.{number_of}
+use Rattle.code.specs.declared.refusal.Refusal.{Refusal}
 use Rattle.code.specs.Code.{Bytes, encode, term_end}
 use Rattle.code.specs.Claims.{Stands}
 use Rattle.code.proofs.RoundTrip.{length_encode, encode_decode}
 use Rattle.code.proofs.FirstZero.{whole}
 use Rattle.code.proofs.Parts.{head}
-use Rattle.examine.specs.Inspect.{Fault, no_fault, beyond, deep, leftmost, inspect, refused, accepted, judged, examined, term_answer_of, term_answer}
-use Rattle.examine.specs.declared.TermAnswer.{TermAnswer}
+use Rattle.examine.specs.Inspect.{Fault, no_fault, beyond, deep, leftmost, inspect, refused, accepted, judged, examined, term_answer_of, term_answer, term_says}
 use Rattle.examine.specs.Clauses.{ByteFault, Graded, Parts}
 use Rattle.examine.proofs.Laws.{examined_whole, answered}
 use Rattle.examine.proofs.Pending.{Pending, end, next, push, pending_fit, pending_some, pending_none, refused_here, turned}
@@ -72,14 +74,11 @@ starts s w l e =
     }
 
 -- ---- The end.
-unfoldable pub accepting : ℕ → TermAnswer
-accepting d = record { number = 0; place = 0; degree = d }
-
-pub ends : {s outside opens degrees : List ℕ} {sp last i : ℕ} → Running s outside opens degrees sp last i → length s ≤ i → accepting last ≡ term_answer s
-unfolding accepting judged term_answer_of
+pub ends : {s outside opens degrees : List ℕ} {sp last i : ℕ} → Running s outside opens degrees sp last i → length s ≤ i → term_says (Ok last) ≡ term_answer s
+unfolding term_says judged term_answer_of
 ends {s} v h =
     let p = pending_none v.pending h in
-    answered s {x = accepted v.term} (v.found_whole ∙ rw p.0) (ap accepting p.1)
+    answered s {x = accepted v.term} (v.found_whole ∙ rw p.0) (rw p.1)
 
 -- ---- A turn.
 set_small : (a : List ℕ) (i v m : ℕ) → i < length a → ((k : ℕ) → get_or a k 0 ≤ m) → v ≤ m → (k : ℕ) → get_or (set a i v) k 0 ≤ m
@@ -102,9 +101,9 @@ depth_pending : {s outside opens degrees : List ℕ} {g m i last : ℕ} {F : Fau
     → get_or outside n 0 + get_or opens n 0 ≤ most_abstractors
 depth_pending n (next l ol dl h f v) = dl
 
-refused_pending : {s outside opens degrees : List ℕ} {g m i last r : ℕ} {F : Fault} (n : ℕ) (u : Term) → Pending s outside opens degrees g (suc n) m i last F
-    → ByteFault (get_or s i 0) (get_or outside n 0 + get_or opens n 0) r → (r ≡ 0 → ⊥) → judged F u ≡ refused r i
-refused_pending n u (next {G = G} l ol dl h f v) ts z = refused_here G u (head h) f ts z
+refused_pending : {s outside opens degrees : List ℕ} {g m i last : ℕ} {F : Fault} {r : Refusal} (n : ℕ) (u : Term) → Pending s outside opens degrees g (suc n) m i last F
+    → ByteFault (get_or s i 0) (get_or outside n 0 + get_or opens n 0) i (Err r) → judged F u ≡ refused (number_of r.condition) r.place
+refused_pending n u (next {G = G} l ol dl h f v) ts = refused_here G u (head h) f ts
 
 module _ {s outside opens degrees : List ℕ} {sp last i : ℕ} (v : Running s outside opens degrees sp last i) (h : i < length s) where
   pub some_left : 1 ≤ sp
@@ -119,18 +118,19 @@ module _ {s outside opens degrees : List ℕ} {sp last i : ℕ} (v : Running s o
   pub depth_small : get_or outside (sp - 1) 0 + get_or opens (sp - 1) 0 ≤ most_abstractors
   depth_small = depth_pending (sp - 1) top
 
-  pub stops : {r : ℕ} {x : TermAnswer} → ByteFault (get_or s i 0) (get_or outside (sp - 1) 0 + get_or opens (sp - 1) 0) r → (r ≡ 0 → ⊥) → x ≡ term_answer_of (refused r i) → x ≡ term_answer s
-  stops ts z = answered s (v.found_whole ∙ refused_pending (sp - 1) v.term top ts z)
+  pub stops : {x : Result (Unit {0}) Refusal} {r : Refusal} → ByteFault (get_or s i 0) (get_or outside (sp - 1) 0 + get_or opens (sp - 1) 0) i x → x ≡ Err r → term_says (Err r) ≡ term_answer s
+  unfolding term_says term_answer_of
+  stops ts e = answered s (v.found_whole ∙ refused_pending (sp - 1) v.term top (rw e at ts)) refl
 
   module _ {at : ℕ} (q : at ≡ get_or outside (sp - 1) 0) where
     pub degrees_set_small : (k : ℕ) → get_or (set degrees at last) k 0 ≤ i
     degrees_set_small = set_small degrees at last i (omega (arith, v.degrees_room, depth_small)) v.degrees_small v.last_small
 
-    pub goes_on : {r last' count x : ℕ} → length s ≤ longest_term → ByteFault (get_or s i 0) (get_or outside (sp - 1) 0 + get_or opens (sp - 1) 0) r → r ≡ 0
+    pub goes_on : {last' count x : ℕ} {r : Result (Unit {0}) Refusal} {u : Unit {0}} → length s ≤ longest_term → ByteFault (get_or s i 0) (get_or outside (sp - 1) 0 + get_or opens (sp - 1) 0) i r → r ≡ Ok u
         → Graded (set degrees at last) (get_or s i 0) (get_or outside (sp - 1) 0 + get_or opens (sp - 1) 0) last last' → Parts (get_or s i 0) count x
         → Running s (set (set outside (sp - 1) (get_or outside (sp - 1) 0 + get_or opens (sp - 1) 0)) sp (get_or outside (sp - 1) 0 + get_or opens (sp - 1) 0))
         (set (set opens (sp - 1) x) sp 0) (set degrees at last) (sp - 1 + count) last' (i + 1)
-    goes_on {r} {last'} {count} {x} l ts ok gr pt =
+    goes_on {last'} {count} {x} l ts ok gr pt =
         let d = get_or outside (sp - 1) 0 + get_or opens (sp - 1) 0 in
         let n = sp - 1 in
         let p : Pending s (set (set outside n d) sp d) (set (set opens n x) sp 0) (set degrees at last) (degree_in [] v.term) (n + count) most_abstractors (i + 1) last' (inspect 0 0 v.term) =

@@ -1,14 +1,15 @@
 -- Inner contracts: what the functions of one turn of the pass answer, for a byte b that stands in d scopes.
 -- Assumes nothing.
-use Rattle.std.specs.Prelude.{ℕ, suc, ◌-◌, ◌≤◌, ◌<◌, ◌≡◌, List, get_or}
+use Rattle.std.specs.Prelude.{Result, Ok, Err, ℕ, suc, ◌-◌, ◌≤◌, ◌<◌, ◌≡◌, List, get_or}
 use Rattle.code.specs.Limits.{most_abstractors}
-use Rattle.code.specs.Refusals.{accepted, beyond_scope, too_many_in_scope}
+use Rattle.code.specs.declared.refusal.Condition.TheVariants.{BeyondScope, TooManyInScope}
+use Rattle.code.specs.declared.refusal.Refusal.{Refusal}
 
--- The number of the byte's own fault, if it has one.
-pub data ByteFault (b d : ℕ) : ℕ → Type 0 where
-  passes : (b < 0xfe → b ≤ d) → (b ≡ 0xff → d < most_abstractors) → ByteFault b d accepted
-  index_beyond : b < 0xfe → d < b → ByteFault b d beyond_scope
-  too_deep : b ≡ 0xff → most_abstractors ≤ d → ByteFault b d too_many_in_scope
+-- The refusal at the place i for the byte's own fault, if it has one.
+pub data ByteFault (b d i : ℕ) : Result Unit Refusal → Type 0 where
+  passes : (b < 0xfe → b ≤ d) → (b ≡ 0xff → d < most_abstractors) → ByteFault b d i (Ok tt)
+  index_beyond : b < 0xfe → d < b → ByteFault b d i (Err (record { condition = BeyondScope; place = i }))
+  too_deep : b ≡ 0xff → most_abstractors ≤ d → ByteFault b d i (Err (record { condition = TooManyInScope; place = i }))
 
 -- The degree r of the last terminal, once the byte is read; `last` before that. The entry at e of `degrees` is the degree of
 -- the U of the abstractor that itself stands in e scopes.

@@ -1,15 +1,15 @@
 -- Examining a term: conditions 4, 3, 5 and 6 in document 01's order, and the answer. Places count symbols, and so bytes.
 -- Assumes nothing.
-use Rattle.std.specs.Prelude.{ℕ, zero, suc, ◌+◌, cond, List, eqb, leb, ltb, length}
+use Rattle.std.specs.Prelude.{Result, Ok, Err, ℕ, zero, suc, ◌+◌, cond, List, eqb, leb, ltb, length}
 use Rattle.std.proofs.Math.Option.{Option, none, some}
 use Rattle.calculus.specs.Terms.{Term, tau, var, app, abs, size}
 use Rattle.calculus.specs.Frames.{ε}
 use Rattle.calculus.specs.Types.{nth, degree_in, degrees, degree}
 use Rattle.code.specs.Limits.{longest_term, most_abstractors}
-use Rattle.code.specs.Refusals.{not_one_term, too_long, beyond_scope, too_many_in_scope}
+use Rattle.code.specs.Refusals.{not_one_term, too_long, beyond_scope, too_many_in_scope, number_of}
 use Rattle.code.specs.Refusals as refusals
 use Rattle.code.specs.Code.{decode, term_end}
-use Rattle.examine.specs.declared.TermAnswer.{TermAnswer}
+use Rattle.code.specs.declared.refusal.Refusal.{Refusal}
 
 -- What is wrong in a term, and the place.
 pub data Fault : Type 0 where
@@ -69,6 +69,11 @@ unfolding ended term_end
 examined s = cond (leb (length s) longest_term) (ended s (term_end s 0)) (refused too_long 0)
 
 -- Number, place and degree: number 0 if accepted, degree 0 if refused.
+pub record TermAnswer : Type 0 where
+  pub number : ℕ
+  pub place : ℕ
+  pub degree : ℕ
+
 unfoldable pub term_answer_of : Examined → TermAnswer
 unfolding nth degree_in degrees degree
 term_answer_of (refused n p) = record { number = n; place = p; degree = 0 }
@@ -78,3 +83,8 @@ term_answer_of (accepted t) = record { number = refusals.accepted; place = 0; de
 unfoldable pub term_answer : List ℕ → TermAnswer
 unfolding term_answer_of examined
 term_answer s = term_answer_of (examined s)
+
+-- What each case of the code's answer says.
+unfoldable pub term_says : Result ℕ Refusal → TermAnswer
+term_says (Ok d) = record { number = refusals.accepted; place = 0; degree = d }
+term_says (Err r) = record { number = number_of r.condition; place = r.place; degree = 0 }

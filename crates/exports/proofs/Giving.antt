@@ -1,30 +1,39 @@
 -- From a call's answer to the numbers given.
 -- Assumes nothing.
 use Prim.Native.Nat.{ℕ}
-use mathlib.Core.Path.{◌≡◌, refl}
+use mathlib.Core.Path.{◌≡◌, refl, ap}
 use mathlib.Core.List.{List, [], ◌∷◌}
 use lib.ListN.{length}
+use Rattle.std.specs.Prelude as prelude
+use Rattle.std.proofs.Common.{Result, Ok, Err, Some, None}
+use Rattle.std.specs.Result.{result_transpose}
+use Rattle.code.specs.declared.refusal.Refusal.{Refusal}
+use Rattle.examine.specs.Inspect.{TermAnswer, term_says}
 use Rattle.files.specs.File.{FileAnswer}
-use Rattle.calls.specs.Answers.{FileAnswered, Written, type_says, step_says}
-use Rattle.calls.specs.declared.StepAnswer.{StepAnswer}
-use Rattle.calls.specs.declared.TypeAnswer.{TypeAnswer}
-use Rattle.calls.specs.declared.TypeAnswer.TheVariants.{Nothing, Answer}
+use Rattle.calls.specs.Answers.{Written, type_says, step_says}
 use Rattle.explaining.specs.Explain.{Explanation}
 use Rattle.explaining.specs.Clauses.{explained_says}
 use Rattle.explaining.specs.declared.Explained.{Explained}
-use Rattle.exports.specs.Numbers.{file_numbers, none_of, Given, Explains}
+use Rattle.exports.specs.Numbers.{result_numbers, term_numbers, file_numbers, none_of, Given, Explains}
 
-pub given_file : {n p : ℕ} {part : List ℕ} {a : FileAnswer} → FileAnswered n p part a → n ∷ p ∷ length part ∷ [] ≡ file_numbers a
-given_file h = rw (h.number_is, h.place_is, h.part_is) refl
+pub given_term : (r : Result ℕ Refusal) {a : TermAnswer} → term_says r ≡ a → result_numbers r ≡ term_numbers a
+unfolding term_says
+given_term (Ok n) h = ap term_numbers h
+given_term (Err r) h = ap term_numbers h
 
-pub given_none : {r : TypeAnswer} {out before : List ℕ} {w : Written} → type_says r out ≡ w → r ≡ Nothing → (1 ≡ none_of w) × Given w before before out
-given_none h e = rw (← h, e) (refl, record { numbers = refl; buffer = refl })
+pub given_none : (r : Result (prelude.Option ℕ) Refusal) {out before : List ℕ} {w : Written} → type_says r out ≡ w → result_transpose r ≡ None → (1 ≡ none_of w) × Given w before before out
+given_none (Ok None) h e = rw (← h) (refl, record { numbers = refl; buffer = refl })
+given_none (Ok (Some n)) h e = absurd cc
+given_none (Err r) h e = absurd cc
 
-pub given_type : {r : TypeAnswer} {out before : List ℕ} {w : Written} {n p k : ℕ} → type_says r out ≡ w → r ≡ Answer n p k → (0 ≡ none_of w) × Given w before (n ∷ p ∷ k ∷ []) out
-given_type h e = rw (← h, e) (refl, record { numbers = refl; buffer = refl })
+pub given_type : (r : Result (prelude.Option ℕ) Refusal) {x : Result ℕ Refusal} {out before : List ℕ} {w : Written} → type_says r out ≡ w → result_transpose r ≡ Some x → (0 ≡ none_of w) × Given w before (result_numbers x) out
+given_type (Ok None) h e = absurd cc
+given_type (Ok (Some n)) {x} h e = let p : Ok n ≡ x = cc in rw (← h, ← p) (refl, record { numbers = refl; buffer = refl })
+given_type (Err r) {x} h e = let p : Err r ≡ x = cc in rw (← h, ← p) (refl, record { numbers = refl; buffer = refl })
 
-pub given_step : {r : StepAnswer} {out before : List ℕ} {w : Written} → step_says r out ≡ w → Given w before (r.number ∷ r.place ∷ r.length ∷ []) out
-given_step h = rw (← h) (record { numbers = refl; buffer = refl })
+pub given_step : (r : Result ℕ Refusal) {out before : List ℕ} {w : Written} → step_says r out ≡ w → Given w before (result_numbers r) out
+given_step (Ok n) h = rw (← h) (record { numbers = refl; buffer = refl })
+given_step (Err r) h = rw (← h) (record { numbers = refl; buffer = refl })
 
 pub given_explained : {r : Explained} {left right : List ℕ} {x : Explanation} → explained_says r left right ≡ x → Explains x (r.number ∷ r.place ∷ r.comparisons ∷ r.degree ∷ r.first ∷ r.second ∷ r.third ∷ 0 ∷ []) left right
 given_explained h = rw (← h) (record { numbers = refl; left_buffer = refl; right_buffer = refl })

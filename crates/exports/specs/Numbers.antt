@@ -1,13 +1,20 @@
 -- The answers of the calls as the numbers that a caller in C or Rust is given.
 -- Assumes nothing.
-use Rattle.std.specs.Prelude.{ℕ, ◌≡◌, List, [], ◌∷◌, length}
-use Rattle.examine.specs.declared.TermAnswer.{TermAnswer}
+use Rattle.std.specs.Prelude.{Result, Ok, Err, ℕ, ◌≡◌, List, [], ◌∷◌, length}
+use Rattle.code.specs.Refusals.{accepted, number_of}
+use Rattle.code.specs.declared.refusal.Refusal.{Refusal}
+use Rattle.examine.specs.Inspect.{TermAnswer}
 use Rattle.files.specs.File.{FileAnswer}
 use Rattle.files.specs.Check.{CheckAnswer}
 use Rattle.calls.specs.Answers.{Written, nothing, answer}
 use Rattle.counting.specs.declared.CountAnswer.{CountAnswer}
 use Rattle.sets.specs.declared.SetAnswer.{SetAnswer}
 use Rattle.explaining.specs.Explain.{Explanation}
+
+-- Number, place and what was found.
+abbrev pub result_numbers : Result ℕ Refusal → List ℕ
+result_numbers (Ok n) = accepted ∷ 0 ∷ n ∷ []
+result_numbers (Err r) = number_of r.condition ∷ r.place ∷ 0 ∷ []
 
 abbrev pub term_numbers : TermAnswer → List ℕ
 term_numbers a = a.number ∷ a.place ∷ a.degree ∷ []

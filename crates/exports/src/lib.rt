@@ -11,18 +11,30 @@ ghost use Rattle.printing.specs.Page.{print_answer};
 ghost use Rattle.counting.specs.Counts.{count_answer};
 ghost use Rattle.explaining.specs.Explain.{explain_file};
 ghost use Rattle.sets.specs.Sets.{check_set};
-ghost use Rattle.exports.specs.Numbers.{term_numbers, file_numbers, check_numbers, count_numbers, set_numbers, none_of, Given, Explains};
+ghost use Rattle.exports.specs.Numbers.{result_numbers, term_numbers, file_numbers, check_numbers, count_numbers, set_numbers, none_of, Given, Explains};
+
+use code::refusal::Refusal;
+
+// Number, place and what was found: a degree or a length, 0 for a refusal.
+fn numbers(answer: Result<usize, Refusal>) -> [u64; 3]
+    ensures { result ≡ result_numbers answer }
+{
+    match answer {
+        Ok(found) => [0, 0, found as u64],
+        Err(refusal) => [
+            u64::from(u32::from(refusal.condition)),
+            refusal.place as u64,
+            0,
+        ],
+    }
+}
 
 // Number, place, degree.
 #[unsafe(no_mangle)]
 pub extern "C" fn bijterne_examine_term(s: &[u8], answer: &mut [u64; 3])
     ensures { answer.new ≡ term_numbers (term_answer s.now) }
 {
-    let a = examine::examine_term(s);
-    let number = a.number;
-    let place = a.place;
-    let degree = a.degree;
-    *answer = [number as u64, place as u64, degree as u64];
+    *answer = numbers(examine::examine_term(s));
 }
 
 // Number, place, and the length of the term's part, which starts at byte 3 of an accepted file.
@@ -30,11 +42,10 @@ pub extern "C" fn bijterne_examine_term(s: &[u8], answer: &mut [u64; 3])
 pub extern "C" fn bijterne_examine_file(s: &[u8], answer: &mut [u64; 3])
     ensures { answer.new ≡ file_numbers (file_answer s.now) }
 {
-    let mut number: u32 = 0;
-    let mut place: usize = 0;
-    let part = calls::examine_file(s, &mut number, &mut place);
-    let n = part.len();
-    *answer = [number as u64, place as u64, n as u64];
+    *answer = match calls::examine_file(s) {
+        Ok(part) => numbers(Ok(part.len())),
+        Err(refusal) => numbers(Err(refusal)),
+    };
 }
 
 // Number, place and the length written; answers 1 for 'none', and then nothing is written.
@@ -42,11 +53,10 @@ pub extern "C" fn bijterne_examine_file(s: &[u8], answer: &mut [u64; 3])
 pub extern "C" fn bijterne_write_type(s: &[u8], out: &mut [u8], answer: &mut [u64; 3]) -> u32
     ensures { (result ≡ none_of (type_answer s.now out.old)) × Given (type_answer s.now out.old) answer.old answer.new out.new }
 {
-    let a = calls::write_type(s, out);
-    match a {
-        calls::TypeAnswer::Nothing => 1,
-        calls::TypeAnswer::Answer(number, place, length) => {
-            *answer = [number as u64, place as u64, length as u64];
+    match calls::write_type(s, out).transpose() {
+        None => 1,
+        Some(written) => {
+            *answer = numbers(written);
             0
         }
     }
@@ -63,11 +73,7 @@ pub extern "C" fn bijterne_apply_step(
 )
     ensures { Given (step_answer s.now (record { kind = kind; place = place }) out.old) answer.old answer.new out.new }
 {
-    let a = calls::apply_step(s, kind, place, out);
-    let number = a.number;
-    let at = a.place;
-    let length = a.length;
-    *answer = [number as u64, at as u64, length as u64];
+    *answer = numbers(calls::apply_step(s, kind, place, out));
 }
 
 // Number, place and the length of the page.
@@ -75,11 +81,7 @@ pub extern "C" fn bijterne_apply_step(
 pub extern "C" fn bijterne_print_term(s: &[u8], out: &mut [u8], answer: &mut [u64; 3])
     ensures { Given (print_answer s.now out.old) answer.old answer.new out.new }
 {
-    let a = printing::print_term(s, out);
-    let number = a.number;
-    let place = a.place;
-    let length = a.length;
-    *answer = [number as u64, place as u64, length as u64];
+    *answer = numbers(printing::print_term(s, out));
 }
 
 // Number, and how many strings are accepted, refused with 3 and refused with 5.

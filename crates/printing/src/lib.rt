@@ -12,8 +12,7 @@ ghost use Rattle.printing.specs.Clauses.{mark, cell_of, cells_of, PutsCell};
 ghost use Rattle.printing.specs.Claims.{Pages, Promises};
 ghost use Rattle.printing.specs.Examples.{Examples};
 
-use calls::StepAnswer;
-use code::numbers::{ACCEPTED, BUFFER_TOO_SHORT};
+use code::refusal::{Condition, Refusal};
 
 // A buffer of this length is long enough for any page.
 pub const LONGEST_PAGE: usize = 16644;
@@ -178,32 +177,17 @@ pub fn page_length(n: usize) -> usize
     LINE_LENGTH * ((n + (CELLS_IN_LINE - 1)) / CELLS_IN_LINE)
 }
 
-// Prints the term s to the start of `out`.
-pub fn print_term(s: &[u8], out: &mut [u8]) -> StepAnswer
+// Prints the term s to the start of `out`: the length of its page.
+pub fn print_term(s: &[u8], out: &mut [u8]) -> Result<usize, Refusal>
     ensures { step_says result out.new ≡ print_answer s.now out.old }
 {
-    let term = examine::examine_term(s);
-    if term.number != ACCEPTED {
-        return StepAnswer {
-            number: term.number,
-            place: term.place,
-            length: 0,
-        };
-    }
+    examine::examine_term(s)?;
     let n = page_length(s.len());
     if out.len() < n {
-        return StepAnswer {
-            number: BUFFER_TOO_SHORT,
-            place: 0,
-            length: 0,
-        };
+        return Err(Condition::BufferTooShort.at(0));
     }
     write_page(s, out);
-    StepAnswer {
-        number: ACCEPTED,
-        place: 0,
-        length: n,
-    }
+    Ok(n)
 }
 
 pub fn pages()

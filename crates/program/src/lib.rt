@@ -159,13 +159,10 @@ fn print_term<R: Read, W: Write>(input: &mut R, output: &mut W) -> Result<(), Fa
     let mut buffer = [0u8; INPUT_ROOM];
     let n = get(input, &mut buffer)?;
     let mut page = [0u8; LONGEST_PAGE];
-    let answer = printing::print_term(&buffer[..n], &mut page);
-    let number = answer.number;
-    if number != ACCEPTED {
-        return Err(Failure::Refused(number, answer.place));
+    match printing::print_term(&buffer[..n], &mut page) {
+        Ok(length) => put(output, &page[..length]),
+        Err(refusal) => Err(Failure::Refused(u32::from(refusal.condition), refusal.place)),
     }
-    let length = answer.length;
-    put(output, &page[..length])
 }
 
 fn count_strings<W: Write>(output: &mut W) -> Result<(), Failure> {

@@ -3,8 +3,7 @@
 -- lines put in front (h).
 -- Assumes nothing.
 use Rattle.std.specs.Prelude.{ℕ, zero, suc, ◌≡◌, List, [], ◌∷◌, ◌++◌, map}
-use Rattle.examine.specs.Inspect.{term_answer}
-use Rattle.examine.specs.declared.TermAnswer.{TermAnswer}
+use Rattle.examine.specs.Inspect.{TermAnswer, term_answer}
 use Rattle.calculus.specs.Steps.{Reading, pairs, base, full}
 use Rattle.files.specs.Check.{CheckAnswer, check_file_by, check_file}
 use Rattle.calls.specs.Answers.{Written, nothing, answer, type_answer, step_answer}

@@ -16,10 +16,10 @@ pub deliver-requires : goal.deliver-requires
 deliver-requires c = let u = answers_letters (step_answers c.requires c.open_body.ensures c.empty_frame-f.ensures refl [] c.step_in_place-stepped.ensures) c.in-Ok.is in (u.0, u.1)
 
 pub returns-in-Err-NotPossible : goal.returns-in-Err-NotPossible
-returns-in-Err-NotPossible c = answers_unmet (step_answers c.requires c.open_body.ensures c.empty_frame-f.ensures refl _ c.step_in_place-stepped.ensures) (let w = c.in-Err-NotPossible in w.is ∙ ap Err (rw w.is at w.field-0-is))
+returns-in-Err-NotPossible c = rw c.at.ensures (answers_unmet (step_answers c.requires c.open_body.ensures c.empty_frame-f.ensures refl _ c.step_in_place-stepped.ensures) (let w = c.in-Err-NotPossible in w.is ∙ ap Err (rw w.is at w.field-0-is)))
 
 pub returns-in-Err-Outgrown : goal.returns-in-Err-Outgrown
-returns-in-Err-Outgrown c = answers_large (step_answers c.requires c.open_body.ensures c.empty_frame-f.ensures refl _ c.step_in_place-stepped.ensures) (let w = c.in-Err-Outgrown in w.is ∙ ap Err (rw w.is at w.field-0-is))
+returns-in-Err-Outgrown c = rw c.at-in-Err-Outgrown.ensures (answers_large (step_answers c.requires c.open_body.ensures c.empty_frame-f.ensures refl _ c.step_in_place-stepped.ensures) (let w = c.in-Err-Outgrown in w.is ∙ ap Err (rw w.is at w.field-0-is)))
 
 pub returns-in-Ok : goal.returns-in-Ok
 returns-in-Ok c = answers_done (step_answers c.requires c.open_body.ensures c.empty_frame-f.ensures refl _ c.step_in_place-stepped.ensures) c.in-Ok.is c.deliver.ensures

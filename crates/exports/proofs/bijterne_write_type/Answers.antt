@@ -1,10 +1,11 @@
 -- `exports::bijterne_write_type` meets its contract.
 -- Assumes nothing.
+use mathlib.Core.Path.{sym, ◌∙◌}
 use Rattle.exports.proofs.Giving.{given_none, given_type}
 use Rattle.exports.proofs.bijterne_write_type.Goals as goal
 
-pub returns-in-Nothing : goal.returns-in-Nothing
-returns-in-Nothing c = given_none c.write_type-a.ensures c.in-Nothing.is
+pub returns-in-None : goal.returns-in-None
+returns-in-None c = given_none _ c.write_type.ensures (sym c.transpose.ensures ∙ c.in-None.is)
 
-pub returns-in-Answer : goal.returns-in-Answer
-returns-in-Answer c = given_type c.write_type-a.ensures c.in-Answer.is
+pub returns-in-Some : goal.returns-in-Some
+returns-in-Some c = rw c.numbers.ensures (given_type _ c.write_type.ensures (sym c.transpose.ensures ∙ c.in-Some.is))
