@@ -11,7 +11,6 @@ ghost use Rattle.arrayvec.specs.ArrayString.{array_string_len};
 ghost use Rattle.program.specs.Clauses.{answer_room, Added};
 
 use arrayvec::ArrayString;
-use code::numbers::ACCEPTED;
 use counting::LONGEST_COUNTED;
 use explanation::Text;
 use printing::LONGEST_PAGE;
