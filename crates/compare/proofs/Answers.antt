@@ -22,13 +22,15 @@ use Rattle.frames.specs.Stored.{Stored}
 use Rattle.frames.proofs.Laws.{stored_depth, stored_unique}
 use Rattle.letters.specs.Letters.{Lies}
 use Rattle.bodies.specs.declared.Reason.{Reason}
-use Rattle.bodies.specs.declared.StepError.TheVariants.{NotPossible, Outgrown}
+use Rattle.bodies.specs.declared.StepError.TheVariants.{NotPossible}
+use Rattle.bodies.specs.declared.StepError.TheVariants.{Outgrown as bodies_outgrown}
 use Rattle.bodies.specs.Held.{Held, Form, SomeHeld, TypedAs, Types}
 use Rattle.bodies.proofs.Using.{refused_type, outgrown_type, held_type}
 use Rattle.bodies.proofs.Places.{fits_true}
 use Rattle.verdict.specs.Bounds.{body_fits}
 use Rattle.verdict.specs.Verdict.{same_at, place_of, Progress, with_group, to_turn}
-use Rattle.compare.specs.declared.Compared.{Compared}
+use Rattle.compare.specs.Answers.{Compared, ground_says}
+use Rattle.compare.specs.declared.Ground.TheVariants.{NoType, NoGroupLeft, Outgrown}
 use Rattle.compare.specs.Replays.{Loadable, LoadedAs, loaded, too_large, Loads}
 use Rattle.compare.specs.Sides.{TwoSides, Sides}
 use Rattle.compare.specs.Compares.{Comparing, is_untyped, is_no_group, is_type_outgrown, is_domain_outgrown, Compares, Ends, Typing, ComparesType}
@@ -97,12 +99,12 @@ module _ {file w : List ℕ} {at : ℕ} {f : FrameRecord} {m e : ℕ} (x : Compa
 
   -- ---- With the type at hand.
   module _ {c a b : List ℕ} {n : ℕ} where
-    pub typed_no_group : length file ≤ at → ComparesType file w at f m e c n (record { number = 9; next = at; first = 0; second = 0; third = 0 }) a b
+    pub typed_no_group : length file ≤ at → ComparesType file w at f m e c n (ground_says NoGroupLeft) a b
     unfolding place_of
     typed_no_group l = record { all = λ R T U gs t i u h place p q. stops_at (no_groups R place U p T (q ∙ ap (map (λ g. g.group)) (none_left h l))) (is_no_group refl refl refl refl) refl }
 
     module _ {b₀ b' : List ℕ} where
-      pub typed_large_domain : at < length file → Loads w b₀ b' f.len (m + 1) e false → ComparesType file w at f m e c n (record { number = 11; next = at; first = 0; second = 0; third = 0 }) a b
+      pub typed_large_domain : at < length file → Loads w b₀ b' f.len (m + 1) e false → ComparesType file w at f m e c n (ground_says Outgrown) a b
       unfolding place_of
       typed_large_domain l y = record {
         all = λ R T U gs t i u h place p q. stops_at (large_domain R place U p T (q ∙ ap (map (λ g. g.group)) (first_group l h).all) i (unfits_of (y.all R U (stored_depth t.stored) (next_place u))))
@@ -125,18 +127,18 @@ module _ {file w : List ℕ} {at : ℕ} {f : FrameRecord} {m e : ℕ} (x : Compa
     typed q {R} {K} s h = subst (TypedAs w f c' R K) q (t.all R K (applied_held s k l h))
 
     module _ {a b : List ℕ} where
-      pub untyped_answer : {v : Reason} → y ≡ Err (NotPossible v) → Compares file w at f m e (record { number = 7; next = at; first = 0; second = 0; third = 0 }) a b
+      pub untyped_answer : {v : Reason} → y ≡ Err (NotPossible v) → Compares file w at f m e (ground_says NoType) a b
       unfolding place_of
       untyped_answer q = record { all = λ R K U gs s i j h place p d. finished (same_at place R K U ∷ []) (stops_at (next_untyped R place U p K (refused_type (typed q s i))) (is_untyped refl refl refl refl) refl) }
 
-      pub no_group_answer : y ≡ Err Outgrown → length file ≤ at → Compares file w at f m e (record { number = 9; next = at; first = 0; second = 0; third = 0 }) a b
+      pub no_group_answer : y ≡ Err bodies_outgrown → length file ≤ at → Compares file w at f m e (ground_says NoGroupLeft) a b
       unfolding place_of
       no_group_answer q v = record {
         all = λ R K U gs s i j h place p d. let o = outgrown_type (typed q s i) in
             finished (same_at place R K U ∷ []) (stops_at (next_typed R place U p K o.0 o.1 ∙ no_groups R place U p o.0 (d ∙ ap (map (λ g. g.group)) (none_left h v))) (is_no_group refl refl refl refl) refl);
       }
 
-      pub large_type_answer : y ≡ Err Outgrown → at < length file → Compares file w at f m e (record { number = 11; next = at; first = 0; second = 0; third = 0 }) a b
+      pub large_type_answer : y ≡ Err bodies_outgrown → at < length file → Compares file w at f m e (ground_says Outgrown) a b
       unfolding place_of
       large_type_answer q v = record {
         all = λ R K U gs s i j h place p d. let o = outgrown_type (typed q s i) in

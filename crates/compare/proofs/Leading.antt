@@ -8,7 +8,7 @@ use Rattle.verdict.specs.Verdict.{Item, Ground, place_of, Progress, turned, Run,
 use Rattle.verdict.proofs.Turns.{run_leads}
 use Rattle.verdict.proofs.Turns as turns
 use Rattle.verdict.proofs.BigStep.{big_leads, finish_big}
-use Rattle.compare.specs.declared.Compared.{Compared}
+use Rattle.compare.specs.Answers.{Compared}
 use Rattle.compare.specs.Replays.{Leads, here, by_turn}
 use Rattle.compare.specs.Compares.{GroundIs, CompareSays, compare_passed, compare_stopped, Ends}
 

@@ -18,8 +18,11 @@ use Rattle.frames.specs.declared.FrameRecord.{FrameRecord}
 use Rattle.verdict.specs.Bounds.{body_fits}
 use Rattle.verdict.specs.Verdict.{step_refused, step_outgrown, Progress, turned, stopped, side_of, on_step, Configuration, Status, at_turn, done, side_from, to_turn, stepped, turn_by, turn}
 use Rattle.bodies.specs.declared.Reason.{Reason as Said}
-use Rattle.bodies.specs.declared.StepError.TheVariants.{NotPossible, Outgrown}
-use Rattle.bodies.specs.Reasons.{said, reason_number}
+use Rattle.bodies.specs.declared.StepError.TheVariants.{NotPossible}
+use Rattle.bodies.specs.declared.StepError.TheVariants.{Outgrown as bodies_outgrown}
+use Rattle.compare.specs.declared.Side.{Side}
+use Rattle.compare.specs.declared.Ground.TheVariants.{StepNotPossible, Outgrown}
+use Rattle.bodies.specs.Reasons.{said}
 use Rattle.bodies.specs.Held.{Held, SomeHeld, Form, SteppedAs, Steps}
 use Rattle.bodies.specs.Held as bodies
 use Rattle.bodies.proofs.Using.{outgrown_step, held_step}
@@ -78,8 +81,8 @@ pub replaying_start : {file : List ℕ} {from to : ℕ} {w : List ℕ} {f : Fram
 replaying_start r s = record { range = r; few = omega arith; some = s; all = λ R t h. record { term = t; held = h; comes = record { leads = λ place o p. rw (turned_none p) here } } }
 
 module _ {file : List ℕ} {from to : ℕ} {w : List ℕ} {f : FrameRecord} {b₀ : List ℕ} {m₀ : ℕ} {b : List ℕ} {at m n : ℕ} (v : Replaying file from to w f b₀ m₀ b at m n) where
-  pub replaying_end : {side : ℕ} → to ≤ at → Replays file from to side w f b₀ b m₀ (record { number = 0; len = m; side = 0; step = 0; reason = 0 })
-  replaying_end l = record { array = v.some.held.array; all = λ R t h. let c = v.all R t h in as_form n refl c.held (rw (ends, no_step file to) at c.comes) }
+  pub replaying_end : {side : Side} → to ≤ at → Replays file from to side w f b₀ b m₀ (Ok m)
+  replaying_end l = record { array = v.some.held.array; all = λ R t h. let c = v.all R t h in as_form n c.held (rw (ends, no_step file to) at c.comes) }
     where
       ends : at ≡ to
       ends = omega (arith, v.range.ordered)
@@ -97,23 +100,23 @@ module _ {file : List ℕ} {from to : ℕ} {w : List ℕ} {f : FrameRecord} {b�
     long : length b' ≡ longest_term
     long = a.same_length ∙ v.some.held.array
 
-    pub replaying_refused : {side i : ℕ} {y : Said} → x ≡ Err (NotPossible y) → i ≡ reason_number (said y) → Replays file from to side w f b₀ b' m₀ (record { number = 10; len = 0; side = side; step = n; reason = i })
-    replaying_refused e q = record {
+    pub replaying_refused : {side : Side} {y : Said} → x ≡ Err (NotPossible y) → Replays file from to side w f b₀ b' m₀ (Err (StepNotPossible side n y))
+    replaying_refused e = record {
       array = long;
-      all = λ R t h. let c = v.all R t h in let o = refusal (told e c.held) in as_refused refl refl refl q (step_stops n s (read_steps file (at + 3) to) c.term (onward c) o);
+      all = λ R t h. let c = v.all R t h in let o = refusal (told e c.held) in as_refused (step_stops n s (read_steps file (at + 3) to) c.term (onward c) o);
     }
 
-    pub replaying_outgrown : {side : ℕ} → x ≡ Err Outgrown → Replays file from to side w f b₀ b' m₀ (record { number = 11; len = 0; side = 0; step = 0; reason = 0 })
+    pub replaying_outgrown : {side : Side} → x ≡ Err bodies_outgrown → Replays file from to side w f b₀ b' m₀ (Err Outgrown)
     replaying_outgrown e = record {
       array = long;
-      all = λ R t h. let c = v.all R t h in let o = outgrown_step (told e c.held) in as_outgrown refl refl refl refl (step_outgrows n s (read_steps file (at + 3) to) c.term (onward c) o.1 o.2);
+      all = λ R t h. let c = v.all R t h in let o = outgrown_step (told e c.held) in as_outgrown (step_outgrows n s (read_steps file (at + 3) to) c.term (onward c) o.1 o.2);
     }
 
-    pub replaying_next : {k : ℕ} → x ≡ Ok k → Replaying file from to w f b₀ m₀ b' (at + 3) k (n + 1)
-    replaying_next {k} e = record {
+    pub replaying_next : {k at' : ℕ} → x ≡ Ok k → at' ≡ at + 3 → Replaying file from to w f b₀ m₀ b' at' k (n + 1)
+    replaying_next {k} e z = rw z (record {
       range = (next_step v.range l).1;
       few = omega (arith, v.few);
       some = let o = held_step (told e v.some.held) in record { frame = v.some.frame; term = o.0; held = o.2.held };
       all = λ R t h. let c = v.all R t h in let o = held_step (told e c.held) in rw (add-one n)
           (record { term = o.0; held = o.2.held; comes = step_goes n s (read_steps file (at + 3) to) c.term (onward c) o.1 o.2.fits });
-    }
+    })

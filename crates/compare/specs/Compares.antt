@@ -16,7 +16,7 @@ use Rattle.bodies.specs.Held.{Held, SomeHeld}
 use Rattle.verdict.specs.Bounds.{body_fits}
 use Rattle.verdict.specs.Verdict.{same_at, Side, Ground, untyped, no_group, step_refused, type_outgrown, domain_outgrown, step_outgrown, different_bodies, place_of, Progress, Run, passed, stopped, Status, done, with_group, to_turn, finish}
 unfoldable pub use Rattle.verdict.specs.Verdict.{side_number}
-use Rattle.compare.specs.declared.Compared.{Compared}
+use Rattle.compare.specs.Answers.{Compared}
 use Rattle.compare.specs.Replays.{Leads}
 
 -- ⟨K⟩[U] stands at the end of the frame's bytes: K up to m, U up to e; it is no entry yet. The groups left stand from `at` on.

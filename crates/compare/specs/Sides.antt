@@ -9,7 +9,7 @@ use Rattle.fields.specs.Fields.{StepRange, GroupAt, group_in, Groups}
 use Rattle.frames.specs.declared.FrameRecord.{FrameRecord}
 use Rattle.bodies.specs.Held.{Held, SomeHeld}
 use Rattle.verdict.specs.Verdict.{Progress, right_next, Status, side_from, to_turn}
-use Rattle.compare.specs.declared.Compared.{Compared}
+use Rattle.compare.specs.Answers.{Compared}
 use Rattle.compare.specs.Compares.{Ends}
 
 -- The two arrays that a comparison is lent. What they hold does not matter.

@@ -2,42 +2,78 @@
 // in an array of its own, replayed by its steps, and compared.
 #![tactic(auto)]
 
+ghost use Rattle.std.specs.Prelude.{◌≡◌};
+ghost use Rattle.code.specs.Refusals.{number_of};
 ghost use Rattle.fields.specs.Fields.{StepRange};
 ghost use Rattle.bodies.specs.Held.{SomeHeld};
+ghost use Rattle.compare.specs.Answers.{side_said, side_number, number_of_ground, compared_says};
 ghost use Rattle.compare.specs.Replays.{Loadable, Loads, Replays};
 ghost use Rattle.compare.specs.Sides.{Buffers, TwoSides, Sides};
 ghost use Rattle.compare.specs.Compares.{Comparing, Compares, Typing, ComparesType};
 
-use bodies::{StepError, type_in_place};
-use code::numbers::{
-    ACCEPTED, BODIES_DIFFER, LONGEST_TERM, MOST_ABSTRACTORS, NO_GROUP_LEFT, NO_TYPE, OUTGROWN,
-    STEP_NOT_POSSIBLE,
-};
+use bodies::{Reason, StepError, type_in_place};
+use code::numbers::{LONGEST_TERM, MOST_ABSTRACTORS};
+use code::refusal::Condition;
 use fields::{GroupSpan, group_at, step_at};
 use frames::{FrameRecord, Work};
 use letters::{Letters, read, same};
 use steps::step_in_place;
 
-// What a comparison comes to: 0 and where the next group stands; or the number of what stops it, and its ground. For 10 the ground is
-// the side (0 left, 1 right), the step's number in its list from 0, and the condition (1 kind, 2 place, 3 byte, 4 no partner, 5 still used);
-// for 12 the lengths of the two bodies, which stand in the two lent arrays; else 0 0 0.
-#[derive(Drop)]
-pub struct Compared {
-    pub number: u32,
-    pub next: usize,
-    pub first: usize,
-    pub second: usize,
-    pub third: usize,
+// The side of K's type, or that of U.
+#[derive(Clone, Copy, Debug, PartialEq, Eq)]
+pub enum Side {
+    Left,
+    Right,
 }
 
-// What a side's steps come to: 0 and the length of the form reached; or the number of what stops them, and its ground.
-#[derive(Drop)]
-struct Replayed {
-    number: u32,
-    len: usize,
-    side: usize,
-    step: usize,
-    reason: usize,
+// Its number.
+impl From<Side> for usize {
+    ghost from_gives = { λ side number. number ≡ side_number (side_said side) };
+
+    fn from(side: Side) -> usize {
+        side as usize
+    }
+}
+
+// What stops the check of a file whose fields and term are right. A side's steps are counted from 0. Of two bodies that differ the lengths
+// are told; they stand in the two lent arrays.
+#[derive(Clone, Copy, Debug, PartialEq, Eq)]
+pub enum Ground {
+    NoType,
+    StillWaiting {
+        waiting: usize,
+    },
+    NoGroupLeft,
+    StepNotPossible {
+        side: Side,
+        step: usize,
+        reason: Reason,
+    },
+    Outgrown,
+    BodiesDiffer {
+        left: usize,
+        right: usize,
+    },
+    GroupsLeft,
+    NotReached,
+}
+
+// Its condition.
+impl From<Ground> for Condition {
+    ghost from_gives = { λ ground condition. number_of condition ≡ number_of_ground ground };
+
+    fn from(ground: Ground) -> Condition {
+        match ground {
+            Ground::NoType => Condition::NoType,
+            Ground::StillWaiting { .. } => Condition::StillWaiting,
+            Ground::NoGroupLeft => Condition::NoGroupLeft,
+            Ground::StepNotPossible { .. } => Condition::StepNotPossible,
+            Ground::Outgrown => Condition::Outgrown,
+            Ground::BodiesDiffer { .. } => Condition::BodiesDiffer,
+            Ground::GroupsLeft => Condition::GroupsLeft,
+            Ground::NotReached => Condition::NotReached,
+        }
+    }
 }
 
 // The term that stands in the work array, as letters in `body`, if it is within the limits after a frame of len entries.
@@ -51,62 +87,35 @@ fn load(work: &Work, from: usize, to: usize, len: usize, body: &mut Letters) -> 
     read(work, from, to, 0, 0, 0, MOST_ABSTRACTORS - len, body, 0)
 }
 
-// The steps of a side, which stand in the file from `from` up to `to`, replayed on the body in the first n letters.
+// The steps of a side, which stand in the file from `from` up to `to`, replayed on the body in the first n letters: the length of the form.
 fn replay(
     file: &[u8],
     from: usize,
     to: usize,
-    side: usize,
+    side: Side,
     body: &mut Letters,
     n: usize,
     work: &Work,
     frame: &FrameRecord,
-) -> Replayed
+) -> Result<usize, Ground>
     requires { StepRange file.now from to × SomeHeld work.now frame.now body.old n }
     ensures { Replays file.now from to side work.now frame.now body.old body.new n result }
 {
-    let mut at = from;
     let mut size = n;
-    let mut step = 0;
-    while at < to {
-        let s = step_at(file, at);
-        let stepped = step_in_place(body, size, work, frame, s.kind, s.place);
-        match stepped {
+    for step in 0..(to - from) / 3 {
+        let s = step_at(file, from + 3 * step);
+        size = match step_in_place(body, size, work, frame, s.kind, s.place) {
+            Ok(m) => m,
             Err(StepError::NotPossible(reason)) => {
-                return Replayed {
-                    number: STEP_NOT_POSSIBLE,
-                    len: 0,
-                    side: side,
-                    step: step,
-                    reason: usize::from(reason),
-                };
+                return Err(Ground::StepNotPossible { side, step, reason });
             }
-            Err(StepError::Outgrown) => {
-                return Replayed {
-                    number: OUTGROWN,
-                    len: 0,
-                    side: 0,
-                    step: 0,
-                    reason: 0,
-                };
-            }
-            Ok(m) => {
-                size = m;
-                at += 3;
-                step += 1;
-            }
-        }
+            Err(StepError::Outgrown) => return Err(Ground::Outgrown),
+        };
     }
-    Replayed {
-        number: ACCEPTED,
-        len: size,
-        side: 0,
-        step: 0,
-        reason: 0,
-    }
+    Ok(size)
 }
 
-// Each side's steps, and whether both reach the same form.
+// Each side's steps, and whether both reach the same form: where the next group stands.
 fn compare_sides(
     file: &[u8],
     g: GroupSpan,
@@ -116,55 +125,19 @@ fn compare_sides(
     n: usize,
     right: &mut Letters,
     k: usize,
-) -> Compared
+) -> Result<usize, Ground>
     requires { TwoSides file.now g work.now frame.now left.old n right.old k }
-    ensures { Sides file.now g work.now frame.now left.old n right.old k result left.new right.new × Buffers left.new right.new }
+    ensures { Sides file.now g work.now frame.now left.old n right.old k (compared_says result) left.new right.new × Buffers left.new right.new }
 {
-    let l = replay(file, g.left, g.middle, 0, left, n, work, frame);
-    if l.number != ACCEPTED {
-        return Compared {
-            number: l.number,
-            next: g.next,
-            first: l.side,
-            second: l.step,
-            third: l.reason,
-        };
+    let l = replay(file, g.left, g.middle, Side::Left, left, n, work, frame)?;
+    let r = replay(file, g.right, g.next, Side::Right, right, k, work, frame)?;
+    if l != r {
+        return Err(Ground::BodiesDiffer { left: l, right: r });
     }
-    let r = replay(file, g.right, g.next, 1, right, k, work, frame);
-    if r.number != ACCEPTED {
-        return Compared {
-            number: r.number,
-            next: g.next,
-            first: r.side,
-            second: r.step,
-            third: r.reason,
-        };
+    if !same(left, right, l) {
+        return Err(Ground::BodiesDiffer { left: l, right: r });
     }
-    if l.len != r.len {
-        return Compared {
-            number: BODIES_DIFFER,
-            next: g.next,
-            first: l.len,
-            second: r.len,
-            third: 0,
-        };
-    }
-    if !same(left, right, l.len) {
-        return Compared {
-            number: BODIES_DIFFER,
-            next: g.next,
-            first: l.len,
-            second: r.len,
-            third: 0,
-        };
-    }
-    Compared {
-        number: ACCEPTED,
-        next: g.next,
-        first: 0,
-        second: 0,
-        third: 0,
-    }
+    Ok(g.next)
 }
 
 // The type of K is held in the first n letters of `left`, and U stands from m + 1 up to e.
@@ -178,34 +151,22 @@ fn compare_type(
     left: &mut Letters,
     n: usize,
     right: &mut Letters,
-) -> Compared
+) -> Result<usize, Ground>
     requires { Typing file.now work.now at frame.now m e left.old n × Buffers left.old right.old }
-    ensures { ComparesType file.now work.now at frame.now m e left.old n result left.new right.new × Buffers left.new right.new }
+    ensures { ComparesType file.now work.now at frame.now m e left.old n (compared_says result) left.new right.new × Buffers left.new right.new }
 {
     if at >= file.len() {
-        return Compared {
-            number: NO_GROUP_LEFT,
-            next: at,
-            first: 0,
-            second: 0,
-            third: 0,
-        };
+        return Err(Ground::NoGroupLeft);
     }
     if !load(work, m + 1, e, frame.len, right) {
-        return Compared {
-            number: OUTGROWN,
-            next: at,
-            first: 0,
-            second: 0,
-            third: 0,
-        };
+        return Err(Ground::Outgrown);
     }
     let g = group_at(file, at);
     compare_sides(file, g, work, frame, left, n, right, e - (m + 1))
 }
 
 // The comparison of ⟨K⟩[U], which stands in the work array from the frame's end up to e, with the group at `at`: K ends at m. The two
-// bodies are carried in the lent arrays.
+// bodies are carried in the lent arrays. Where the next group stands, or what stops the check.
 pub fn compare(
     file: &[u8],
     at: usize,
@@ -215,39 +176,16 @@ pub fn compare(
     e: usize,
     left: &mut Letters,
     right: &mut Letters,
-) -> Compared
+) -> Result<usize, Ground>
     requires { Comparing file.now work.now at frame.now m e × Buffers left.old right.old }
-    ensures { Compares file.now work.now at frame.now m e result left.new right.new × Buffers left.new right.new }
+    ensures { Compares file.now work.now at frame.now m e (compared_says result) left.new right.new × Buffers left.new right.new }
 {
     let start = frame.end + 1;
-    let loaded = load(work, start, m, frame.len, left);
-    let typed = type_in_place(left, m - start, work, frame);
-    match typed {
-        Err(StepError::NotPossible(_)) => Compared {
-            number: NO_TYPE,
-            next: at,
-            first: 0,
-            second: 0,
-            third: 0,
-        },
-        Err(StepError::Outgrown) => {
-            if at >= file.len() {
-                return Compared {
-                    number: NO_GROUP_LEFT,
-                    next: at,
-                    first: 0,
-                    second: 0,
-                    third: 0,
-                };
-            }
-            Compared {
-                number: OUTGROWN,
-                next: at,
-                first: 0,
-                second: 0,
-                third: 0,
-            }
-        }
+    load(work, start, m, frame.len, left); // as K is within the limits
+    match type_in_place(left, m - start, work, frame) {
         Ok(n) => compare_type(file, at, work, frame, m, e, left, n, right),
+        Err(StepError::NotPossible(_)) => Err(Ground::NoType),
+        Err(StepError::Outgrown) if at >= file.len() => Err(Ground::NoGroupLeft),
+        Err(StepError::Outgrown) => Err(Ground::Outgrown),
     }
 }

@@ -1,24 +1,26 @@
 -- `compare::compare_sides` meets its contract.
 -- Assumes nothing.
-use mathlib.Core.Path.{refl}
 use native.Mathlib.Omega.{arith}
+use Rattle.std.proofs.lemmas.Result.{err_from_is_err_and}
 use Rattle.compare.proofs.Runs.{form_room, left_stops, right_stops, lengths_differ, letters_differ, letters_agree}
 use Rattle.compare.proofs.compare_sides.Goals as goal
 
-pub returns-then-l-ne-ACCEPTED : goal.returns-then-l-ne-ACCEPTED
-returns-then-l-ne-ACCEPTED c = (left_stops c.replay-l.ensures refl c.if-l-ne-ACCEPTED.true, record { left_long = c.replay-l.ensures.array; right_long = c.requires.right_body.held.array })
+pub returns-in_err-l : goal.returns-in_err-l
+returns-in_err-l c = let e = err_from_is_err_and c.from_residual.result c.from_residual.ensures.1 in
+    rw (e.1, e.2) (left_stops c.in_err-l.ensures, record { left_long = c.replay.ensures.array; right_long = c.requires.right_body.held.array })
 
-pub returns-then-r-ne-ACCEPTED : goal.returns-then-r-ne-ACCEPTED
-returns-then-r-ne-ACCEPTED c = (right_stops c.replay-l.ensures c.if-l-ne-ACCEPTED.false c.replay-r.ensures refl c.if-r-ne-ACCEPTED.true, record { left_long = c.replay-l.ensures.array; right_long = c.replay-r.ensures.array })
+pub returns-in_err-r : goal.returns-in_err-r
+returns-in_err-r c = let e = err_from_is_err_and c.from_residual-in_err-r.result c.from_residual-in_err-r.ensures.1 in
+    rw (e.1, e.2) (right_stops c.in_ok-l.ensures c.in_err-r.ensures, record { left_long = c.replay.ensures.array; right_long = c.replay-2.ensures.array })
 
 pub returns-then-l-r : goal.returns-then-l-r
-returns-then-l-r c = (lengths_differ c.replay-l.ensures c.if-l-ne-ACCEPTED.false c.replay-r.ensures c.if-r-ne-ACCEPTED.false c.if-l-r.true, record { left_long = c.replay-l.ensures.array; right_long = c.replay-r.ensures.array })
+returns-then-l-r c = (lengths_differ c.in_ok-l.ensures c.in_ok-r.ensures c.if-l-r.true, record { left_long = c.replay.ensures.array; right_long = c.replay-2.ensures.array })
 
 pub same-requires : goal.same-requires
-same-requires c = omega (arith, form_room c.replay-l.ensures c.requires.left_body c.if-l-ne-ACCEPTED.false, c.replay-l.ensures.array)
+same-requires c = omega (arith, form_room c.in_ok-l.ensures c.requires.left_body, c.replay.ensures.array)
 
 pub returns-then-not-same : goal.returns-then-not-same
-returns-then-not-same c = (letters_differ c.replay-l.ensures c.if-l-ne-ACCEPTED.false c.replay-r.ensures c.if-r-ne-ACCEPTED.false c.if-l-r.false c.same.ensures c.if-not-same.true, record { left_long = c.replay-l.ensures.array; right_long = c.replay-r.ensures.array })
+returns-then-not-same c = (letters_differ c.in_ok-l.ensures c.in_ok-r.ensures c.if-l-r.false c.same.ensures c.if-not-same.true, record { left_long = c.replay.ensures.array; right_long = c.replay-2.ensures.array })
 
 pub returns : goal.returns
-returns c = (letters_agree c.replay-l.ensures c.if-l-ne-ACCEPTED.false c.replay-r.ensures c.if-r-ne-ACCEPTED.false c.if-l-r.false c.same.ensures c.if-not-same.false, record { left_long = c.replay-l.ensures.array; right_long = c.replay-r.ensures.array })
+returns c = (letters_agree c.in_ok-l.ensures c.in_ok-r.ensures c.if-l-r.false c.same.ensures c.if-not-same.false, record { left_long = c.replay.ensures.array; right_long = c.replay-2.ensures.array })
