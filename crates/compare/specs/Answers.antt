@@ -50,4 +50,4 @@ ground_says NotReached = record { number = never; next = 0; first = 0; second = 
 
 abbrev pub compared_says : Result ℕ Ground → Compared
 compared_says (Ok next) = record { number = accepted; next = next; first = 0; second = 0; third = 0 }
-compared_says (Err ground) = ground_says ground
+compared_says (Err x) = ground_says x

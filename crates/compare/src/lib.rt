@@ -6,7 +6,7 @@ ghost use Rattle.std.specs.Prelude.{◌≡◌};
 ghost use Rattle.code.specs.Refusals.{number_of};
 ghost use Rattle.fields.specs.Fields.{StepRange};
 ghost use Rattle.bodies.specs.Held.{SomeHeld};
-ghost use Rattle.compare.specs.Answers.{side_said, side_number, number_of_ground, compared_says};
+ghost use Rattle.compare.specs.Answers.{side_said, side_number, number_of_ground, ground_says, compared_says};
 ghost use Rattle.compare.specs.Replays.{Loadable, Loads, Replays};
 ghost use Rattle.compare.specs.Sides.{Buffers, TwoSides, Sides};
 ghost use Rattle.compare.specs.Compares.{Comparing, Compares, Typing, ComparesType};
@@ -58,9 +58,27 @@ pub enum Ground {
     NotReached,
 }
 
+impl Ground {
+    // Its numbers: how many wait; the side, the step and the reason; the two lengths; else 0 0 0.
+    pub fn numbers(self) -> (usize, usize, usize)
+        ensures first { result.0 ≡ (ground_says self).first }
+        ensures second { result.1 ≡ (ground_says self).second }
+        ensures third { result.2 ≡ (ground_says self).third }
+    {
+        match self {
+            Ground::StillWaiting { waiting } => (waiting, 0, 0),
+            Ground::StepNotPossible { side, step, reason } => {
+                (usize::from(side), step, usize::from(reason))
+            }
+            Ground::BodiesDiffer { left, right } => (left, right, 0),
+            _ => (0, 0, 0),
+        }
+    }
+}
+
 // Its condition.
 impl From<Ground> for Condition {
-    ghost from_gives = { λ ground condition. number_of condition ≡ number_of_ground ground };
+    ghost from_gives = { λ x condition. number_of condition ≡ number_of_ground x };
 
     fn from(ground: Ground) -> Condition {
         match ground {

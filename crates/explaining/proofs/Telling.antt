@@ -26,7 +26,7 @@ use Rattle.files.specs.File.{opened, open_file}
 use Rattle.files.specs.Check as files
 use Rattle.files.specs.Check.{groups_of, check_answer_of, check_opened_by}
 use Rattle.compare.specs.Sides.{Buffers}
-use Rattle.compare.specs.declared.Compared.{Compared}
+use Rattle.compare.specs.Answers.{Compared}
 use Rattle.compare.specs.Compares.{GroundIs, is_untyped, is_no_group, is_refused, is_type_outgrown, is_domain_outgrown, is_step_outgrown, is_different}
 use Rattle.walk.specs.Clauses.{Halts, halts_waiting, halts_outgrown, halts_compared}
 use Rattle.walk.specs.declared.Walked.{Walked}

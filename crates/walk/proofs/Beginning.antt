@@ -19,7 +19,7 @@ use Rattle.fields.specs.Fields.{GroupAt, Groups}
 use Rattle.frames.specs.Stored.{EmptyRecord}
 use Rattle.frames.specs.declared.FrameRecord.{FrameRecord}
 use Rattle.compare.specs.Compares.{GroundIs, is_untyped, is_no_group, is_refused, is_type_outgrown, is_domain_outgrown, is_step_outgrown, is_different}
-use Rattle.compare.specs.declared.Compared.{Compared}
+use Rattle.compare.specs.Answers.{Compared}
 use Rattle.compare.proofs.Grounds.{ground_number}
 use Rattle.texts.specs.Texts.{WholeTerm}
 use Rattle.texts.proofs.Origins.{origin_own}

@@ -23,7 +23,7 @@ use Rattle.frames.specs.Stored.{Stored, Agree, EntryBytes, bytes_single, bytes_p
 use Rattle.frames.specs.declared.FrameRecord.{FrameRecord}
 use Rattle.frames.proofs.Entries.{agree_refl, agree_part, agree_trans, stands_agree, bytes_start}
 use Rattle.frames.proofs.Laws.{stored_depth, stored_push, stored_agree}
-use Rattle.compare.specs.declared.Compared.{Compared}
+use Rattle.compare.specs.Answers.{Compared}
 use Rattle.compare.specs.Compares.{Comparing, CompareSays, compare_passed, compare_stopped, Compares}
 use Rattle.compare.proofs.Grounds.{ground_number}
 use Rattle.texts.specs.Texts.{Origin}

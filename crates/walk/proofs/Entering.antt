@@ -17,7 +17,7 @@ use Rattle.code.proofs.Parts.{stands_start}
 use Rattle.frames.specs.Stored.{Agree}
 use Rattle.frames.specs.declared.FrameRecord.{FrameRecord}
 use Rattle.frames.proofs.Entries.{agree_refl, agree_part, agree_set}
-use Rattle.compare.specs.declared.Compared.{Compared}
+use Rattle.compare.specs.Answers.{Compared}
 use Rattle.compare.specs.Compares.{Comparing, Compares}
 use Rattle.texts.proofs.Origins.{origin_inside}
 use Rattle.verdict.specs.Verdict.{Progress, Run, finish}

@@ -21,7 +21,7 @@ use Rattle.frames.specs.Stored.{pushed}
 use Rattle.frames.specs.declared.FrameRecord.{FrameRecord}
 use Rattle.frames.proofs.Entries.{agree_part, agree_trans}
 use Rattle.frames.proofs.Laws.{stored_agree}
-use Rattle.compare.specs.declared.Compared.{Compared}
+use Rattle.compare.specs.Answers.{Compared}
 use Rattle.compare.specs.Compares.{Comparing, Compares}
 use Rattle.compare.proofs.Grounds.{ground_number}
 use Rattle.texts.proofs.Origins.{origin_own}

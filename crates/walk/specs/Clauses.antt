@@ -12,7 +12,8 @@ use Rattle.fields.specs.Fields.{GroupAt, Groups}
 use Rattle.frames.specs.Stored.{Agree, pushed}
 use Rattle.frames.specs.declared.FrameRecord.{FrameRecord}
 use Rattle.compare.specs.Compares.{GroundIs, Comparing, Compares}
-use Rattle.compare.specs.declared.Compared.{Compared}
+use Rattle.compare.specs.Answers.{Compared, ground_says}
+use Rattle.compare.specs.declared.Ground.{Ground as Stop}
 use Rattle.texts.specs.Texts.{Sized, Depths, Origin}
 use Rattle.verdict.specs.Bounds.{state_fits}
 use Rattle.verdict.specs.Verdict.{Ground, something_waits, state_outgrown, not_reached, place_of, Progress, Run, passed, stopped, finish, check_term}
@@ -110,6 +111,10 @@ pub data Says (file : List ℕ) (long : ℕ) (a b : List ℕ) (r : Walked) : Run
   says_full : {x : Run} → r.number ≡ list_full → long < longest_list → Says file long a b r x
 
 -- TURNS
+-- The answer where a comparison placed there stops the walk.
+abbrev pub stopped_by : Stop → ℕ → WalkState → Walked
+stopped_by g place s = let c = ground_says g in record { number = c.number; place = place; comparisons = s.comparisons; next = s.next; first = c.first; second = c.second; third = c.third }
+
 -- The frame, once it has one more entry, whose bytes end there, or none.
 abbrev pub with_entry : Option ℕ → FrameRecord → FrameRecord
 with_entry None f = f

@@ -10,12 +10,13 @@ ghost use Rattle.frames.specs.Stored.{record_of, pushed};
 ghost use Rattle.compare.specs.Sides.{Buffers};
 ghost use Rattle.waiting.specs.Writing.{PutAsked, Puts};
 ghost use Rattle.walk.specs.State.{text_of, arrays_of, Stated};
-ghost use Rattle.walk.specs.Clauses.{within, answering, completed_of, past_of, met_of, typed_of, start_of, inner_of, checked_of, TestAs, DueAs, RuleAt, TauTurn, WaitReady, PutAside, WaitTurn, SizesKnown, DepthsKnown, AbstractorAt, Wagons, Known, Turns, InnerAt, Checks, Walkable, longest_list, WholeAnswer, WalkAnswer};
+ghost use Rattle.walk.specs.Clauses.{within, answering, stopped_by, completed_of, past_of, met_of, typed_of, start_of, inner_of, checked_of, TestAs, DueAs, RuleAt, TauTurn, WaitReady, PutAside, WaitTurn, SizesKnown, DepthsKnown, AbstractorAt, Wagons, Known, Turns, InnerAt, Checks, Walkable, longest_list, WholeAnswer, WalkAnswer};
 
 use code::numbers::{
     ACCEPTED, LONGEST_STATE, LONGEST_TERM, MOST_ABSTRACTORS, NEVER, OUTGROWN, STILL_WAITING,
 };
-use compare::compare;
+use code::refusal::Condition;
+use compare::{Ground, compare};
 use frames::{FrameRecord, Starts, Work, empty_frame};
 use letters::Letters;
 use texts::measure;
@@ -157,6 +158,22 @@ fn answer(
         second,
         third,
     })
+}
+
+// The answer where a comparison placed there stops the walk.
+fn stopped(ground: Ground, place: usize, s: WalkState) -> Walked
+    ensures { result ≡ stopped_by ground place s }
+{
+    let (first, second, third) = ground.numbers();
+    Walked {
+        number: u32::from(Condition::from(ground)),
+        place,
+        comparisons: s.comparisons,
+        next: s.next,
+        first,
+        second,
+        third,
+    }
 }
 
 // One more entry, whose bytes end at `end`.
@@ -699,21 +716,13 @@ fn term(
                 middle,
                 end,
             } => {
-                let q = compare(file, z.next, &memory.work, &f, middle, end, left, right);
-                let stops = q.number != ACCEPTED;
-                if stops {
-                    return Walked {
-                        number: q.number,
-                        place,
-                        comparisons: z.comparisons,
-                        next: z.next,
-                        first: q.first,
-                        second: q.second,
-                        third: q.third,
-                    };
+                match compare(file, z.next, &memory.work, &f, middle, end, left, right) {
+                    Ok(next) => {
+                        z = completed(state, next);
+                        push_entry(&mut f, end);
+                    }
+                    Err(ground) => return stopped(ground, place, z),
                 }
-                z = completed(state, q.next);
-                push_entry(&mut f, end);
             }
             Turned::State { state, entered } => {
                 z = state;

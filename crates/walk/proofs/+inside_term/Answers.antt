@@ -3,6 +3,7 @@
 use Rattle.std.proofs.Common.{arith, refl, ap}
 use Rattle.walk.specs.Clauses.{with_entry}
 use Rattle.walk.proofs.Loop.{settles_answer, settles_inner, compare_due, compared_stops, compared_goes, compared_falls, compared_few, going_start, now_stated, inner_stated, going_done, inner_due, inner_place, inside_falls, on_bounds, goes_to, falls_to, inner_stops, going_resumed, resumed_falls}
+use Rattle.compare.proofs.Grounds.{ground_stops}
 use Rattle.walk.proofs.+inside_term.Goals as goal
 
 pub inside-overflow_add-s : goal.inside-overflow_add-s
@@ -35,23 +36,23 @@ term-loop-walked-smaller-in-Inner t c = rw c.checked-z.ensures (resumed_falls c.
 pub term-loop-walked-preserved-in-Inner : goal.term-loop-walked-preserved-in-Inner
 term-loop-walked-preserved-in-Inner t c = (rw c.checked-z.ensures (going_resumed c.loop-walked.invariant.0 (settles_inner (c.in-Inner.ensures _ c.args.file.now c.args.file.now (now_stated c.loop-walked.invariant.0))) c.inside-q.ensures.0 c.if-q-ne-ACCEPTED.false), c.inside-q.ensures.1)
 
-pub term-compare-q-requires : goal.term-compare-q-requires
-term-compare-q-requires t c = (compare_due (c.in-Compare.ensures _ c.args.file.now c.args.file.now (now_stated c.loop-walked.invariant.0)) (now_stated c.loop-walked.invariant.0), c.loop-walked.invariant.1)
+pub term-compare-requires : goal.term-compare-requires
+term-compare-requires t c = (compare_due (c.in-Compare.ensures _ c.args.file.now c.args.file.now (now_stated c.loop-walked.invariant.0)) (now_stated c.loop-walked.invariant.0), c.loop-walked.invariant.1)
 
-pub term-returns-then-stops : goal.term-returns-then-stops
-term-returns-then-stops t c = (compared_stops c.loop-walked.invariant.0 (c.in-Compare.ensures _ c.args.file.now c.args.file.now (now_stated c.loop-walked.invariant.0)) c.compare-q.ensures.0 c.if-stops.true, c.compare-q.ensures.1)
+pub term-returns-in-Err : goal.term-returns-in-Err
+term-returns-in-Err t c = (rw c.stopped.ensures (compared_stops c.loop-walked.invariant.0 (c.in-Compare.ensures _ c.args.file.now c.args.file.now (now_stated c.loop-walked.invariant.0)) c.in-Err.ensures.0 (ground_stops c.in-Err.ground)), c.in-Err.ensures.1)
 
 pub term-completed-z-requires : goal.term-completed-z-requires
-term-completed-z-requires t c = compared_few (compared_goes c.loop-walked.invariant.0 (c.in-Compare.ensures _ c.args.file.now c.args.file.now (now_stated c.loop-walked.invariant.0)) c.compare-q.ensures.0 c.if-stops.false) refl
+term-completed-z-requires t c = compared_few (compared_goes c.loop-walked.invariant.0 (c.in-Compare.ensures _ c.args.file.now c.args.file.now (now_stated c.loop-walked.invariant.0)) c.in-Ok.ensures.0 refl) refl
 
 pub term-push_entry-requires : goal.term-push_entry-requires
-term-push_entry-requires t c = on_bounds c.loop-walked.invariant.0 (compared_goes c.loop-walked.invariant.0 (c.in-Compare.ensures _ c.args.file.now c.args.file.now (now_stated c.loop-walked.invariant.0)) c.compare-q.ensures.0 c.if-stops.false)
+term-push_entry-requires t c = on_bounds c.loop-walked.invariant.0 (compared_goes c.loop-walked.invariant.0 (c.in-Compare.ensures _ c.args.file.now c.args.file.now (now_stated c.loop-walked.invariant.0)) c.in-Ok.ensures.0 refl)
 
-pub term-loop-walked-smaller-in-Compare : goal.term-loop-walked-smaller-in-Compare
-term-loop-walked-smaller-in-Compare t c = rw (c.completed-z.ensures, c.push_entry.ensures) (compared_falls c.loop-walked.invariant.0 (c.in-Compare.ensures _ c.args.file.now c.args.file.now (now_stated c.loop-walked.invariant.0)) c.compare-q.ensures.0 c.if-stops.false)
+pub term-loop-walked-smaller-in-Ok : goal.term-loop-walked-smaller-in-Ok
+term-loop-walked-smaller-in-Ok t c = rw (c.completed-z.ensures, c.push_entry.ensures) (compared_falls c.loop-walked.invariant.0 (c.in-Compare.ensures _ c.args.file.now c.args.file.now (now_stated c.loop-walked.invariant.0)) c.in-Ok.ensures.0 refl)
 
-pub term-loop-walked-preserved-in-Compare : goal.term-loop-walked-preserved-in-Compare
-term-loop-walked-preserved-in-Compare t c = (rw (c.completed-z.ensures, c.push_entry.ensures) (compared_goes c.loop-walked.invariant.0 (c.in-Compare.ensures _ c.args.file.now c.args.file.now (now_stated c.loop-walked.invariant.0)) c.compare-q.ensures.0 c.if-stops.false), c.compare-q.ensures.1)
+pub term-loop-walked-preserved-in-Ok : goal.term-loop-walked-preserved-in-Ok
+term-loop-walked-preserved-in-Ok t c = (rw (c.completed-z.ensures, c.push_entry.ensures) (compared_goes c.loop-walked.invariant.0 (c.in-Compare.ensures _ c.args.file.now c.args.file.now (now_stated c.loop-walked.invariant.0)) c.in-Ok.ensures.0 refl), c.in-Ok.ensures.1)
 
 pub term-push_entry-requires-in-Some : goal.term-push_entry-requires-in-Some
 term-push_entry-requires-in-Some t c = on_bounds c.loop-walked.invariant.0 (goes_to c.loop-walked.invariant.0 (c.in-State.ensures _ c.args.file.now c.args.file.now (now_stated c.loop-walked.invariant.0)) (ap (λ o. with_entry o c.loop-walked.f) c.in-Some.is))
