@@ -12,14 +12,14 @@ use Rattle.calculus.specs.Types.{degree}
 use Rattle.calculus.specs.Rules.{groups}
 use Rattle.code.specs.Code.{Bytes, encode}
 use Rattle.code.proofs.RoundTrip.{encode_decode}
-use Rattle.fields.specs.Fields.{GroupAt, Groups, done, more, read_file, term_bytes, layout_of}
-use Rattle.fields.specs.Claims.{HasFields}
-use Rattle.fields.specs.Fields.{Layout}
-use Rattle.fields.proofs.Groups.{if_accepted, if_refused, accepts, accepted_only, none_left, room}
-use Rattle.std.proofs.Common.{Ok, Err}
+use Rattle.std.proofs.Common.{Result, Ok, Err}
 use Rattle.code.specs.Refusals.{number_of}
 use Rattle.code.specs.declared.refusal.Refusal.{Refusal}
 use Rattle.code.proofs.Refusals.{refusal_number}
+use Rattle.fields.specs.declared.Layout as code_layout
+use Rattle.fields.specs.Fields.{GroupAt, Groups, done, more, read_file, term_bytes, layout_of, layout_says}
+use Rattle.fields.specs.Claims.{HasFields}
+use Rattle.fields.proofs.Groups.{if_accepted, if_refused, accepts, accepted_only, none_left, room}
 use Rattle.examine.specs.Inspect.{examined, term_says, term_answer}
 use Rattle.examine.specs.Claims.{WellFormed}
 use Rattle.examine.proofs.Laws.{examining_holds, accepted_answer, refused_answer}
@@ -34,52 +34,51 @@ use Rattle.walk.proofs.Beginning.{halts_answer}
 use Rattle.checker.specs.Answer.{CheckedAs, Checked}
 use Rattle.checker.specs.Clauses.{OpenedAs, open_refused, opened_term, Openable, RunAs, run_passed, run_stopped, FileWalked}
 use Rattle.checker.specs.declared.CheckAnswer.{CheckAnswer}
-use Rattle.checker.specs.declared.OpenAnswer.{OpenAnswer}
+use Rattle.checker.specs.declared.Opened as code
 use Rattle.checker.proofs.Left.{same_left, groups_drop, drop_groups}
 
 -- OPENING
 -- an opened file's answer
-opened_as : {r : OpenAnswer} (s : List ℕ) {o : Opened} → open_file s ≡ o → OpenedAs r o → OpenedAs r (open_file s)
+opened_as : {r : Result code.Opened Refusal} (s : List ℕ) {o : Opened} → open_file s ≡ o → OpenedAs r o → OpenedAs r (open_file s)
 opened_as s h a = rw h a
 
-module _ (s : List ℕ) {r : Layout} (is : r ≡ layout_of (read_file s)) where
-  pub fields_refused : (r.number ≡ 0 → ⊥) → OpenedAs (record { number = r.number; place = r.place; end = 0; degree = 0 }) (open_file s)
+pub fields_refused : (s : List ℕ) {x : Refusal} → layout_says (Err x) ≡ layout_of (read_file s) → OpenedAs (Err x) (open_file s)
+unfolding open_file open_fields
+fields_refused s {x} is = opened_as s (ap (open_fields s) (if_refused s is (λ z. omega (arith, refusal_number x.condition))).0) open_refused
+
+module _ (s : List ℕ) {l : code_layout.Layout} (is : layout_says (Ok l) ≡ layout_of (read_file s)) where
+  is_open : open_file s ≡ open_term l.end (if_accepted s is refl).list (examined (term_bytes s l.end))
   unfolding open_file open_fields
-  fields_refused z = opened_as s (ap (open_fields s) (if_refused s is z).0) (open_refused z)
+  is_open = ap (open_fields s) (accepts (if_accepted s is refl).is)
 
-  module _ (z : r.number ≡ 0) where
-    is_open : open_file s ≡ open_term r.end (if_accepted s is z).list (examined (term_bytes s r.end))
-    unfolding open_file open_fields
-    is_open = ap (open_fields s) (accepts (if_accepted s is z).is)
+  pub term_refused : {x : Refusal} → term_says (Err x) ≡ term_answer (term_bytes s l.end) → OpenedAs (Err x) (open_file s)
+  unfolding open_term
+  term_refused {x} q = opened_as s (is_open ∙ ap (open_term l.end (if_accepted s is refl).list) (refused_answer (term_bytes s l.end) x q)) open_refused
 
-    pub term_refused : (x : Refusal) → term_says (Err x) ≡ term_answer (term_bytes s r.end) → OpenedAs (record { number = number_of x.condition; place = x.place; end = r.end; degree = 0 }) (open_file s)
-    unfolding open_term
-    term_refused x q = opened_as s (is_open ∙ ap (open_term r.end (if_accepted s is z).list) (refused_answer (term_bytes s r.end) x q)) (open_refused (λ e. omega (arith, refusal_number x.condition)))
-
-    pub term_opened : (d : ℕ) → term_says (Ok d) ≡ term_answer (term_bytes s r.end) → OpenedAs (record { number = 0; place = 0; end = r.end; degree = d }) (open_file s)
-    unfolding open_term
-    term_opened d q =
-        let a = accepted_answer (term_bytes s r.end) q in
-        opened_as s (is_open ∙ ap (open_term r.end (if_accepted s is z).list) a.is) (opened_term refl a.degree_is)
+  pub term_opened : {d : ℕ} → term_says (Ok d) ≡ term_answer (term_bytes s l.end) → OpenedAs (Ok (record { end = l.end; degree = d })) (open_file s)
+  unfolding open_term
+  term_opened q =
+      let a = accepted_answer (term_bytes s l.end) q in
+      opened_as s (is_open ∙ ap (open_term l.end (if_accepted s is refl).list) a.is) (opened_term a.degree_is)
 
 -- what refuses it, or that it opens
-pub refused_is : {r : OpenAnswer} (s : List ℕ) → OpenedAs r (open_file s) → (r.number ≡ 0 → ⊥) → open_file s ≡ refused r.number r.place
-refused_is {r} s a n = go (open_file s) refl a
+pub refused_is : {x : Refusal} (s : List ℕ) → OpenedAs (Err x) (open_file s) → open_file s ≡ refused (number_of x.condition) x.place
+refused_is {x} s a = go (open_file s) refl a
   where
-    go : (o : Opened) → open_file s ≡ o → OpenedAs r o → open_file s ≡ refused r.number r.place
-    go (refused m p) h (open_refused k) = h
-    go (opened t e gs) h (opened_term z d) = absurd (n z)
+    go : (o : Opened) → open_file s ≡ o → OpenedAs (Err x) o → open_file s ≡ refused (number_of x.condition) x.place
+    go (refused m p) h open_refused = h
+    go (opened t e gs) h a = elim a [ ]
 
-pub record Opening (s : List ℕ) (r : OpenAnswer) : Type 0 where
+pub record Opening (s : List ℕ) (r : code.Opened) : Type 0 where
   pub openable : Openable s r.end
   pub degree_is : r.degree ≡ degree ε openable.term
 
-pub opening : {r : OpenAnswer} (s : List ℕ) → OpenedAs r (open_file s) → r.number ≡ 0 → Opening s r
-opening {r} s a n = go (open_file s) refl a
+pub opening : {r : code.Opened} (s : List ℕ) → OpenedAs (Ok r) (open_file s) → Opening s r
+opening {r} s a = go (open_file s) refl a
   where
-    go : (o : Opened) → open_file s ≡ o → OpenedAs r o → Opening s r
-    go (refused m p) h (open_refused k) = absurd (k n)
-    go (opened t e gs) h (opened_term z d) = record { openable = record { term = t; groups = gs; opens = h }; degree_is = d }
+    go : (o : Opened) → open_file s ≡ o → OpenedAs (Ok r) o → Opening s r
+    go (refused m p) h a = elim a [ ]
+    go (opened t e gs) h (opened_term d) = record { openable = record { term = t; groups = gs; opens = h }; degree_is = d }
 
 -- WALKING
 module _ (s : List ℕ) {e : ℕ} (b : Bytes s) where
@@ -164,15 +163,15 @@ checked {s} b a = record {
 checked_as : {s : List ℕ} {n p c d : ℕ} → Bytes s → check_file s ≡ record { number = n; place = p; comparisons = c; degree = d } → Checked s (record { number = n; place = p; comparisons = c; degree = d })
 checked_as b h = checked b (rw h (record { number_is = refl; place_is = refl; comparisons_is = refl; degree_is = refl }))
 
-pub check_refused : {s : List ℕ} {r : OpenAnswer} → Bytes s → OpenedAs r (open_file s) → (r.number ≡ 0 → ⊥) → Checked s (record { number = r.number; place = r.place; comparisons = 0; degree = 0 })
+pub check_refused : {s : List ℕ} {x : Refusal} → Bytes s → OpenedAs (Err x) (open_file s) → Checked s (record { number = number_of x.condition; place = x.place; comparisons = 0; degree = 0 })
 unfolding check_file_by check_opened_by
-check_refused {s} b a n = checked_as b (ap (check_opened_by latest) (refused_is s a n))
+check_refused {s} b a = checked_as b (ap (check_opened_by latest) (refused_is s a))
 
-pub check_walked : {s : List ℕ} {r : OpenAnswer} {w : Walked} {left right : List ℕ} → Bytes s → OpenedAs r (open_file s) → r.number ≡ 0 → FileWalked s r.end left right w
+pub check_walked : {s : List ℕ} {r : code.Opened} {w : Walked} {left right : List ℕ} → Bytes s → OpenedAs (Ok r) (open_file s) → FileWalked s r.end left right w
     → Checked s (record { number = w.number; place = w.place; comparisons = w.comparisons; degree = r.degree })
 unfolding check_file_by check_opened_by
-check_walked {s} {w = w} b a n f =
-    let o = opening s a n in
+check_walked {s} {w = w} b a f =
+    let o = opening s a in
     checked_as b
     (ap (check_opened_by latest) o.openable.opens
     ∙ answer_of (degree ε o.openable.term) (f.all o.openable.term o.openable.groups o.openable.opens)

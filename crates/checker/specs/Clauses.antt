@@ -1,22 +1,23 @@
 -- The two parts of a check: what is tested before the walk; and the walk, with the test for groups left after it.
 -- Assumes nothing.
-use Rattle.std.specs.Prelude.{ℕ, ◌≡◌, List, drop}
+use Rattle.std.specs.Prelude.{ℕ, ◌≡◌, Result, Ok, Err, List, drop}
 use Rattle.calculus.specs.Terms.{Term}
 use Rattle.calculus.specs.Frames.{ε}
 use Rattle.calculus.specs.Types.{degree}
-use Rattle.code.specs.Refusals.{accepted, bodies_differ}
+use Rattle.code.specs.Refusals.{bodies_differ, number_of}
+use Rattle.code.specs.declared.refusal.Refusal.{Refusal}
 use Rattle.fields.specs.Fields.{GroupAt}
 use Rattle.verdict.specs.Verdict.{Ground, Progress, Run, passed, stopped, check_term}
 use Rattle.files.specs.File.{Opened, refused, opened, open_file}
 use Rattle.files.specs.Check.{groups_of, left_over}
 use Rattle.walk.specs.Clauses.{Halts}
 use Rattle.walk.specs.declared.Walked.{Walked}
-use Rattle.checker.specs.declared.OpenAnswer.{OpenAnswer}
+use Rattle.checker.specs.declared.Opened as code
 
 -- What the answer says of an opened file.
-pub data OpenedAs (r : OpenAnswer) : Opened → Type 0 where
-  open_refused : (r.number ≡ accepted → ⊥) → OpenedAs r (refused r.number r.place)
-  opened_term : {t : Term} {gs : List GroupAt} → r.number ≡ accepted → r.degree ≡ degree ε t → OpenedAs r (opened t r.end gs)
+pub data OpenedAs : Result code.Opened Refusal → Opened → Type 0 where
+  open_refused : {r : Refusal} → OpenedAs (Err r) (refused (number_of r.condition) r.place)
+  opened_term : {o : code.Opened} {t : Term} {gs : List GroupAt} → o.degree ≡ degree ε t → OpenedAs (Ok o) (opened t o.end gs)
 
 -- A file that opens, with its term up to e.
 pub record Openable (s : List ℕ) (e : ℕ) : Type 0 where

@@ -7,6 +7,7 @@ ghost use Rattle.checker.specs.Answer.{Checked};
 ghost use Rattle.checker.specs.Clauses.{OpenedAs, Openable, FileWalked};
 
 use code::numbers::{ACCEPTED, GROUPS_LEFT, LONGEST_TERM};
+use code::refusal::Refusal;
 use letters::Letters;
 use walk::{Walked, walk_term};
 
@@ -19,46 +20,23 @@ pub struct CheckAnswer {
     pub degree: usize,
 }
 
-// What the tests before the walk come to: 0, where the term ends in the file and its degree; or the number and the place of what
-// refuses the file.
-#[derive(Drop)]
-pub struct OpenAnswer {
-    pub number: u32,
-    pub place: usize,
+// An opened file: where its term ends, and the term's degree.
+#[derive(Clone, Copy)]
+pub struct Opened {
     pub end: usize,
     pub degree: usize,
 }
 
 // Opens a file: the conditions before the walk.
-pub fn open_file(s: &[u8]) -> OpenAnswer
+#[tactic(auto, using(fields::proofs::Groups::inside, crate::proofs::Checking::fields_refused, crate::proofs::Checking::term_refused, crate::proofs::Checking::term_opened))]
+pub fn open_file(s: &[u8]) -> Result<Opened, Refusal>
     ensures { OpenedAs result (open_file s.now) }
 {
-    let end = match fields::read_fields(s) {
-        Ok(layout) => layout.end,
-        Err(refusal) => {
-            return OpenAnswer {
-                number: u32::from(refusal.condition),
-                place: refusal.place,
-                end: 0,
-                degree: 0,
-            };
-        }
-    };
+    let layout = fields::read_fields(s)?;
+    let end = layout.end;
     let part = fields::term_part(s, end);
-    match examine::examine_term(part) {
-        Ok(degree) => OpenAnswer {
-            number: 0,
-            place: 0,
-            end,
-            degree,
-        },
-        Err(refusal) => OpenAnswer {
-            number: u32::from(refusal.condition),
-            place: refusal.place,
-            end,
-            degree: 0,
-        },
-    }
+    let degree = examine::examine_term(part)?;
+    Ok(Opened { end, degree })
 }
 
 // Walks the term of an opened file, which ends at `end`, with the groups after it; then 13. The ground of a refusal is as `walk` has it:
@@ -99,16 +77,17 @@ pub fn walk_file(s: &[u8], end: usize, left: &mut Letters, right: &mut Letters) 
 pub fn check(s: &[u8]) -> CheckAnswer
     ensures { Checked s.now result }
 {
-    let opened = open_file(s);
-    let number = opened.number;
-    if number != ACCEPTED {
-        return CheckAnswer {
-            number,
-            place: opened.place,
-            comparisons: 0,
-            degree: 0,
-        };
-    }
+    let opened = match open_file(s) {
+        Ok(opened) => opened,
+        Err(refusal) => {
+            return CheckAnswer {
+                number: u32::from(refusal.condition),
+                place: refusal.place,
+                comparisons: 0,
+                degree: 0,
+            };
+        }
+    };
     let mut left: Letters = [0; LONGEST_TERM];
     let mut right: Letters = [0; LONGEST_TERM];
     let walked = walk_file(s, opened.end, &mut left, &mut right);

@@ -13,6 +13,9 @@ use borrow.Author.Tests.{le-leb, lt-leb}
 use Rattle.calculus.specs.Terms.{Term}
 use Rattle.calculus.specs.Frames.{ε}
 use Rattle.calculus.specs.Types.{degree}
+use Rattle.std.proofs.Common.{Err}
+use Rattle.code.specs.Refusals.{number_of}
+use Rattle.code.specs.declared.refusal.Refusal.{Refusal}
 use Rattle.code.specs.Code.{Bytes, encode}
 use Rattle.code.proofs.RoundTrip.{length_encode}
 use Rattle.parts.proofs.Stores.{drop_sets_start}
@@ -31,7 +34,6 @@ use Rattle.compare.specs.Compares.{GroundIs, is_untyped, is_no_group, is_refused
 use Rattle.walk.specs.Clauses.{Halts, halts_waiting, halts_outgrown, halts_compared}
 use Rattle.walk.specs.declared.Walked.{Walked}
 use Rattle.checker.specs.Clauses.{OpenedAs, RunAs, run_passed, run_stopped, FileWalked}
-use Rattle.checker.specs.declared.OpenAnswer.{OpenAnswer}
 use Rattle.files.proofs.Answers.{opens, closed}
 use Rattle.checker.proofs.Checking.{refused_is, answer_of}
 use Rattle.explaining.specs.Explain.{difference, handed_both, told, explain_ground, explain_run, explain_opened, explain_file}
@@ -80,10 +82,10 @@ module _ {a b : List ℕ} {n k : ℕ} {left right : List ℕ} (place comparisons
 
 -- THE ANSWER
 -- before the walk
-pub told_refused : (s left right : List ℕ) {r : OpenAnswer} → OpenedAs r (open_file s) → (r.number ≡ 0 → ⊥)
-    → explained_says (record { number = r.number; place = r.place; comparisons = 0; degree = 0; first = 0; second = 0; third = 0 }) left right ≡ explain_file s left right
+pub told_refused : (s left right : List ℕ) {x : Refusal} → OpenedAs (Err x) (open_file s)
+    → explained_says (record { number = number_of x.condition; place = x.place; comparisons = 0; degree = 0; first = 0; second = 0; third = 0 }) left right ≡ explain_file s left right
 unfolding explain_file explain_opened check_opened_by
-told_refused s left right a n = sym (ap (explain_opened left right) (refused_is s a n))
+told_refused s left right a = sym (ap (explain_opened left right) (refused_is s a))
 
 -- a ground other than 12
 told_compared : (x : files.CheckAnswer) (left right : List ℕ) {c : Compared} {a b : List ℕ} {g : Ground} → GroundIs c a b g → (c.number ≡ 12 → ⊥) → explain_ground x left right g ≡ told x left right c.first c.second c.third

@@ -8,7 +8,7 @@ ghost use Rattle.explaining.specs.Clauses.{explained_says, TwoBodies, Delivers};
 ghost use Rattle.explaining.specs.Claims.{Differing, Promises};
 
 use checker::{open_file, walk_file};
-use code::numbers::{ACCEPTED, BODIES_DIFFER, BUFFER_TOO_SHORT, LONGEST_TERM};
+use code::numbers::{BODIES_DIFFER, BUFFER_TOO_SHORT, LONGEST_TERM};
 use letters::Letters;
 
 // The check's four numbers, and then: for 12 the lengths of the two bodies and the place of the first byte at which they differ; for 10
@@ -31,6 +31,7 @@ fn first_difference(left: &[u8], right: &[u8]) -> usize
     ensures { result ≡ difference left.now right.now }
 {
     let mut i: usize = 0;
+    // Kept: document 01 names this form, a loop that yields its offset by `break`; the promise that there is a difference bounds the index.
     let offset = loop {
         if left[i] != right[i] {
             break i;
@@ -85,19 +86,20 @@ fn deliver(
 pub fn explain(s: &[u8], left: &mut [u8], right: &mut [u8]) -> Explained
     ensures { explained_says result left.new right.new ≡ explain_file s.now left.old right.old }
 {
-    let opened = open_file(s);
-    let number = opened.number;
-    if number != ACCEPTED {
-        return Explained {
-            number,
-            place: opened.place,
-            comparisons: 0,
-            degree: 0,
-            first: 0,
-            second: 0,
-            third: 0,
-        };
-    }
+    let opened = match open_file(s) {
+        Ok(opened) => opened,
+        Err(refusal) => {
+            return Explained {
+                number: u32::from(refusal.condition),
+                place: refusal.place,
+                comparisons: 0,
+                degree: 0,
+                first: 0,
+                second: 0,
+                third: 0,
+            };
+        }
+    };
     let degree = opened.degree;
     let mut a: Letters = [0; LONGEST_TERM];
     let mut b: Letters = [0; LONGEST_TERM];
