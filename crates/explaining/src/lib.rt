@@ -26,6 +26,7 @@ pub struct Explained {
 }
 
 // The place of the first byte at which two bodies differ: neither is a beginning of the other, so that there is one.
+#[tactic(auto, using(crate::proofs::Differences::goes_on, crate::proofs::Differences::ends_here))]
 fn first_difference(left: &[u8], right: &[u8]) -> usize
     requires { Differing left.now right.now }
     ensures { result ≡ difference left.now right.now }
@@ -42,6 +43,7 @@ fn first_difference(left: &[u8], right: &[u8]) -> usize
 }
 
 // Hands over two bodies that differ, of n and k letters.
+#[tactic(auto, using(crate::proofs::Telling::delivers_none, crate::proofs::Telling::delivers_both))]
 fn deliver(
     place: usize,
     comparisons: usize,
@@ -128,6 +130,7 @@ pub fn explain(s: &[u8], left: &mut [u8], right: &mut [u8]) -> Explained
     }
 }
 
+#[tactic(auto, using(crate::proofs::Promised::promised))]
 pub fn promises()
     ensures { Promises }
 {}

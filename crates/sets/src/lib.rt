@@ -45,6 +45,7 @@ fn read_heads(s: &[u8]) -> Result<(), Refusal>
 }
 
 // The files one after the other, up to the first that is refused.
+#[tactic(auto, using(crate::proofs::Passes::here, crate::proofs::Passes::next_place, crate::proofs::Passes::file_refused, crate::proofs::Passes::file_accepted, crate::proofs::Passes::files_end, crate::proofs::Answers::comparisons_fit))]
 fn check_files(s: &[u8]) -> SetAnswer
     requires { WholeFrom s.now 0 }
     ensures { result ≡ check_from 0 0 (files_from s.now 0) }
@@ -95,6 +96,7 @@ pub fn check_set(s: &[u8]) -> SetAnswer
 }
 
 // Which sets are accepted (specs/Claims.antt).
+#[tactic(auto, using(crate::proofs::Answers::accepted_sets))]
 pub fn what_sets_are_accepted()
     ensures { AcceptedSets }
 {}
