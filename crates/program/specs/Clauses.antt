@@ -9,9 +9,9 @@ use Rattle.printing.specs.Page.{page_length}
 abbrev pub answer_room : ℕ
 answer_room = 84
 
--- 'At place', and the place; where it counts; the words for a side; why a step is not possible; a sentence.
-abbrev pub opening_room : ℕ
-opening_room = 30
+-- What a place counts in; 'At place', the place, and that; the words for a side; why a step is not possible; a sentence.
+abbrev pub whole_room : ℕ
+whole_room = 12
 
 abbrev pub place_room : ℕ
 place_room = 42

@@ -5,7 +5,7 @@ ghost use Rattle.std.specs.Str.{IsUtf8};
 ghost use Rattle.code.specs.Limits.{longest_term};
 ghost use Rattle.printing.specs.Page.{cells_in_line, line_length, page_length};
 ghost use Rattle.streams.specs.Clauses.{number_room};
-ghost use Rattle.program.specs.Clauses.{opening_room, place_room, side_room, condition_room, sentence_room, body_room, explanation_room, HasRoom, Added, LineEnd, BodiesAt};
+ghost use Rattle.program.specs.Clauses.{whole_room, place_room, side_room, condition_room, sentence_room, body_room, explanation_room, HasRoom, Added, LineEnd, BodiesAt};
 
 use crate::push_answer;
 use arrayvec::ArrayString;
@@ -23,43 +23,31 @@ use streams::push_number;
 // A text of this length has room for all that is said of a file.
 pub const LONGEST_EXPLANATION: usize = 34000;
 
+const OF_FILE: &str = "of the file ";
+
+const OF_TERM: &str = "of the term ";
+
 pub type Text = ArrayString<LONGEST_EXPLANATION>;
 
 // A number, and the words for one or for any other number.
 fn push_count(text: &mut Text, n: usize, one: &str, other: &str)
     requires shorter { length one.now ≤ length other.now }
-    requires room { HasRoom text.old (number_room + length other.now) }
-    ensures { Added (number_room + length other.now) text.old text.new }
+    requires room { HasRoom text.old (number_room 20 + length other.now) }
+    ensures { Added (number_room 20 + length other.now) text.old text.new }
 {
-    push_number(text, n as u64, ' ');
+    push_number(text, n, ' ');
     text.push_str(if n == 1 { one } else { other });
 }
 
-fn push_place(text: &mut Text, place: usize)
-    requires { HasRoom text.old opening_room }
-    ensures { Added opening_room text.old text.new }
+// A place in the file or in the term, and what is there.
+fn push_at(text: &mut Text, place: usize, whole: &str, words: &str)
+    requires whole { length whole.now ≤ whole_room }
+    requires room { HasRoom text.old (place_room + length words.now) }
+    ensures { Added (place_room + length words.now) text.old text.new }
 {
     text.push_str("At place ");
-    push_number(text, place as u64, ' ');
-}
-
-// A place in the file, and what is there.
-fn push_in_file(text: &mut Text, place: usize, words: &str)
-    requires { HasRoom text.old (place_room + length words.now) }
-    ensures { Added (place_room + length words.now) text.old text.new }
-{
-    push_place(text, place);
-    text.push_str("of the file ");
-    text.push_str(words);
-}
-
-// A place in the term, and what is there.
-fn push_in_term(text: &mut Text, place: usize, words: &str)
-    requires { HasRoom text.old (place_room + length words.now) }
-    ensures { Added (place_room + length words.now) text.old text.new }
-{
-    push_place(text, place);
-    text.push_str("of the term ");
+    push_number(text, place, ' ');
+    text.push_str(whole);
     text.push_str(words);
 }
 
@@ -75,7 +63,7 @@ fn push_waiting(text: &mut Text, place: usize, waiting: usize)
         "applicator waits; it stands at place ",
         "applicators wait; the last of them stands at place ",
     );
-    push_number(text, place as u64, ' ');
+    push_number(text, place, ' ');
     text.push_str("of the term.\n");
 }
 
@@ -119,10 +107,10 @@ fn push_step(
     requires { HasRoom text.old sentence_room }
     ensures { Added sentence_room text.old text.new }
 {
-    push_in_term(text, place, "the applicator is compared; step ");
-    push_number(text, step as u64, ' ');
+    push_at(text, place, OF_TERM, "the applicator is compared; step ");
+    push_number(text, step, ' ');
     text.push_str(side_words(side));
-    push_number(text, group as u64, ',');
+    push_number(text, group, ',');
     text.push_str(" both counted from 0, is not possible: ");
     text.push_str(reason_words(condition));
 }
@@ -132,14 +120,15 @@ fn push_difference(text: &mut Text, place: usize, group: usize, difference: usiz
     requires { HasRoom text.old sentence_room }
     ensures { Added sentence_room text.old text.new }
 {
-    push_in_term(
+    push_at(
         text,
         place,
+        OF_TERM,
         "the type of the applicator's K (left) and the abstractor's U (right), as the steps of group ",
     );
-    push_number(text, group as u64, ' ');
+    push_number(text, group, ' ');
     text.push_str("carried them, first differ at byte ");
-    push_number(text, difference as u64, ',');
+    push_number(text, difference, ',');
     text.push_str(" both counted from 0.\n");
 }
 
@@ -150,50 +139,59 @@ fn push_ground(text: &mut Text, number: u32, place: usize)
 {
     match number {
         ACCEPTED => text.push_str("The file is accepted: its term is correct.\n"),
-        CUT_SHORT => push_in_file(
+        CUT_SHORT => push_at(
             text,
             place,
+            OF_FILE,
             "a field is due, and the file ends before that field does.\n",
         ),
-        WRONG_FIELD => push_in_file(
+        WRONG_FIELD => push_at(
             text,
             place,
+            OF_FILE,
             "the tag is not the one due (1, then 2 and 3 in turn), or the steps are not a multiple of 3 bytes.\n",
         ),
-        NOT_ONE_TERM => push_in_term(
+        NOT_ONE_TERM => push_at(
             text,
             place,
+            OF_TERM,
             "its field ends too early, or goes on though the term has ended.\n",
         ),
         TOO_LONG => text.push_str("The file has over 65,535 bytes, or its term over 4,096.\n"),
-        BEYOND_SCOPE => push_in_term(
+        BEYOND_SCOPE => push_at(
             text,
             place,
+            OF_TERM,
             "the index is beyond its scope: fewer abstractors are in scope there.\n",
         ),
-        TOO_MANY_IN_SCOPE => push_in_term(
+        TOO_MANY_IN_SCOPE => push_at(
             text,
             place,
+            OF_TERM,
             "an abstractor is one too many: 253 are in scope there already.\n",
         ),
-        NO_TYPE => push_in_term(
+        NO_TYPE => push_at(
             text,
             place,
+            OF_TERM,
             "the applicator's K is taken by an abstractor, but ends in tau and so has no type.\n",
         ),
-        NO_GROUP_LEFT => push_in_term(
+        NO_GROUP_LEFT => push_at(
             text,
             place,
+            OF_TERM,
             "the applicator is due for a comparison, but no group is left.\n",
         ),
-        OUTGROWN => push_in_term(
+        OUTGROWN => push_at(
             text,
             place,
+            OF_TERM,
             "a limit is outgrown: 8,192 bytes for a state, 4,096 for a compared body, 253 abstractors in scope in either.\n",
         ),
-        _ => push_in_file(
+        _ => push_at(
             text,
             place,
+            OF_FILE,
             "a group begins that is left over: every comparison is done.\n",
         ),
     }

@@ -79,10 +79,10 @@ fn push_answer<const N: usize>(
     requires { array_string_len line.old + answer_room ≤ N }
     ensures { Added answer_room line.old line.new }
 {
-    push_number(line, number as u64, ' ');
-    push_number(line, place as u64, ' ');
-    push_number(line, comparisons as u64, ' ');
-    push_number(line, degree as u64, '\n');
+    push_number(line, number, ' ');
+    push_number(line, place, ' ');
+    push_number(line, comparisons, ' ');
+    push_number(line, degree, '\n');
 }
 
 // `bijterne`: checks a file and writes the four numbers of its answer. The exit status is 0 if they were written, whatever they say.
@@ -149,7 +149,7 @@ fn answer_set<R: Read, W: Write>(input: &mut R, output: &mut W) -> Result<(), Fa
     let n = get(input, &mut buffer)?;
     let a = sets::check_set(&buffer[..n]);
     let mut line: ArrayString<LINES_ROOM> = ArrayString::new();
-    push_number(&mut line, a.file as u64, ' ');
+    push_number(&mut line, a.file, ' ');
     push_answer(&mut line, a.number, a.place, a.comparisons, a.degree);
     put(output, line.as_bytes())
 }
@@ -177,7 +177,7 @@ fn push_counts<const N: usize>(lines: &mut ArrayString<N>, n: usize)
     ensures { Added answer_room lines.old lines.new }
 {
     let a = counting::count_strings(n);
-    push_number(lines, n as u64, ' ');
+    push_number(lines, n, ' ');
     push_number(lines, a.accepted, ' ');
     push_number(lines, a.malformed, ' ');
     push_number(lines, a.unbound, '\n');

@@ -1,7 +1,7 @@
 -- Inner contracts: a number in a text.
 -- Assumes nothing.
-use Rattle.std.specs.Prelude.{ℕ}
+use Rattle.std.specs.Prelude.{ℕ, ◌+◌}
 
--- A number of 64 bits in decimal, and a byte after it.
-abbrev pub number_room : ℕ
-number_room = 21
+-- A number of so many digits at most, and a byte after it.
+abbrev pub number_room : ℕ → ℕ
+number_room digits = digits + 1

@@ -2,7 +2,7 @@
 // failure says of itself.
 #![tactic(auto)]
 
-ghost use Rattle.std.specs.Prelude.{◌≡◌, ◌+◌, ◌≤◌, ◌<◌, ◌⊎◌, ◌++◌, ◌∷◌, [], ℕ, codes, length, take, decimal, IfOk, OnOk};
+ghost use Rattle.std.specs.Prelude.{◌≡◌, ◌+◌, ◌≤◌, ◌<◌, ◌⊎◌, ◌++◌, ◌∷◌, [], ℕ, codes, length, take, IfOk, OnOk};
 ghost use Rattle.std.specs.Io.{ReadsAtMost};
 ghost use Rattle.std.specs.Io.KnownBytes.{Appends, Consumes, IsAtEnd};
 ghost use Rattle.std.specs.Str.Pattern.{HasTextAt, LacksTextAt};
@@ -10,6 +10,7 @@ ghost use Rattle.arrayvec.specs.ArrayString.{array_string_len};
 ghost use Rattle.streams.specs.Clauses.{number_room};
 
 use arrayvec::ArrayString;
+use itoa::Integer;
 use std::fmt::Write as _;
 use std::io::{Error, ErrorKind, Read, Write};
 use std::{fmt, io};
@@ -95,11 +96,11 @@ pub fn words(message: &str) -> &str
 
 // Puts n in decimal at the end of a text, and one more byte.
 // Kept: not `write!`, of which no clause says that it succeeds where there is room.
-pub fn push_number<const N: usize>(text: &mut ArrayString<N>, n: u64, after: char)
+pub fn push_number<const N: usize, I: Integer>(text: &mut ArrayString<N>, n: I, after: char)
     requires one_byte { after < 128 }
-    requires room { array_string_len text.old + number_room ≤ N }
-    ensures bytes { text.new.bytes ≡ text.old.bytes ++ decimal n ++ after ∷ [] }
-    ensures fits { array_string_len text.new ≤ array_string_len text.old + number_room }
+    requires room { array_string_len text.old + number_room I.MAX_STR_LEN ≤ N }
+    ensures bytes { text.new.bytes ≡ text.old.bytes ++ I.text n ++ after ∷ [] }
+    ensures fits { array_string_len text.new ≤ array_string_len text.old + number_room I.MAX_STR_LEN }
 {
     text.push_str(itoa::Buffer::new().format(n));
     text.push(after);
