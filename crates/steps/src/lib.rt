@@ -14,7 +14,10 @@ ghost use Rattle.steps.specs.Filling.{use_depth, UsesAre, filling, LetterFillabl
 use bodies::{Reason, StepError, deepest, end_of, lift_to, local};
 use code::numbers::{LONGEST_TERM, MOST_ABSTRACTORS};
 use frames::{FrameRecord, Work};
-use letters::{APPLICATOR, Letters, depth_of, height_of, symbol_of, wide};
+use letters::{APPLICATOR, Letters, depth_of, height_of, symbol_of};
+
+// Most results of a substitution are no larger.
+const SMALL: usize = 256;
 
 // ---- Couples.
 // The couple ⟨K⟩..[U]B at a place: the depths of its applicator and of its abstractor, and the places of what stands between, of its
@@ -189,14 +192,15 @@ fn fill(s: &Letters, p: usize, x: Couple, out: &mut [u32])
     }
 }
 
-// What stands between, and B so filled, which has `size` letters, take the place of the couple at p and of B; `out` is written first, as K
-// and B are read till the end.
-fn rewrite(s: &mut Letters, n: usize, p: usize, x: Couple, size: usize, out: &mut [u32])
-    requires { Rewritable s.old n p x size × (size ≤ length out.old) }
+// What stands between, and B so filled, which has `size` letters, take the place of the couple at p and of B. B is filled in an array of
+// its own first, as K and B are read till the end.
+fn rewrite<const ROOM: usize>(s: &mut Letters, n: usize, p: usize, x: Couple, size: usize)
+    requires { Rewritable s.old n p x size × (size ≤ ROOM) × (ROOM ≤ longest_term) }
     ensures { Spliced s.old s.new n p x.end (remaining s.old x ++ filling s.old p x) }
 {
+    let mut out = [0u32; ROOM];
     let at = p + (x.abstractor - x.between);
-    fill(s, p, x, out);
+    fill(s, p, x, &mut out[..]);
     s.copy_within(x.between..x.abstractor, p);
     s.copy_within(x.end..n, at + size);
     s[at..at + size].copy_from_slice(&out[..size]);
@@ -207,13 +211,11 @@ fn substitute(s: &mut Letters, n: usize, p: usize, x: Couple, size: usize)
     requires { Rewritable s.old n p x size }
     ensures { Spliced s.old s.new n p x.end (remaining s.old x ++ filling s.old p x) }
 {
-    if size <= 256 {
-        let mut small: [u32; 256] = [0; 256];
-        rewrite(s, n, p, x, size, &mut small);
-        return;
+    if size <= SMALL {
+        rewrite::<SMALL>(s, n, p, x, size)
+    } else {
+        rewrite::<LONGEST_TERM>(s, n, p, x, size)
     }
-    let mut large: Letters = [0; LONGEST_TERM];
-    rewrite(s, n, p, x, size, &mut large);
 }
 
 // Kind 3 at place p, after a frame of len entries. Only the final form is measured, before anything is written.
@@ -224,7 +226,7 @@ fn whole(s: &mut Letters, n: usize, p: usize, len: usize) -> Result<usize, StepE
     let x = couple_at(s, n, p)?;
     let uses = measure(&s[x.rest..x.end], x.depth);
     let kept = n - (x.end - p) + (x.abstractor - x.between);
-    let size = x.end - x.rest + wide(uses.count) * (x.between - p - 2);
+    let size = x.end - x.rest + uses.count as usize * (x.between - p - 2);
     if kept + size > LONGEST_TERM {
         return Err(StepError::Outgrown);
     }
