@@ -11,6 +11,7 @@ ghost use Rattle.arrayvec.specs.ArrayString.{array_string_len};
 ghost use Rattle.program.specs.Clauses.{answer_room, Added};
 
 use arrayvec::ArrayString;
+use code::refusal::Refusal;
 use counting::LONGEST_COUNTED;
 use explanation::Text;
 use printing::LONGEST_PAGE;
@@ -29,7 +30,13 @@ const LINES_ROOM: usize = 4096;
 enum Failure {
     Input(io::Error),
     Output(io::Error),
-    Refused(u32, usize),
+    Refused(Refusal),
+}
+
+impl From<Refusal> for Failure {
+    fn from(refusal: Refusal) -> Failure {
+        Failure::Refused(refusal)
+    }
 }
 
 // Reads the input.
@@ -50,7 +57,7 @@ impl fmt::Display for Failure {
         match self {
             Failure::Input(error) => write!(f, "standard input: {}", Reason(error)),
             Failure::Output(error) => write!(f, "standard output: {}", Reason(error)),
-            Failure::Refused(number, place) => write!(f, "{number} {place}"),
+            Failure::Refused(refusal) => write!(f, "{refusal}"),
         }
     }
 }
@@ -60,7 +67,7 @@ fn status<R: Eprint>(rt: &R, program: &str, ended: Result<(), Failure>) -> ExitC
     let Err(failure) = ended else {
         return ExitCode::SUCCESS;
     };
-    if let Failure::Refused(_, _) = failure {
+    if let Failure::Refused(_) = failure {
         let _said = eprintln!(rt; "{failure}");
         return ExitCode::from(1);
     }
@@ -158,10 +165,8 @@ fn print_term<R: Read, W: Write>(input: &mut R, output: &mut W) -> Result<(), Fa
     let mut buffer = [0u8; INPUT_ROOM];
     let n = get(input, &mut buffer)?;
     let mut page = [0u8; LONGEST_PAGE];
-    match printing::print_term(&buffer[..n], &mut page) {
-        Ok(length) => put(output, &page[..length]),
-        Err(refusal) => Err(Failure::Refused(u32::from(refusal.condition), refusal.place)),
-    }
+    let length = printing::print_term(&buffer[..n], &mut page)?;
+    put(output, &page[..length])
 }
 
 fn count_strings<W: Write>(output: &mut W) -> Result<(), Failure> {
