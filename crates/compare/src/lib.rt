@@ -145,7 +145,7 @@ fn compare_sides(
     k: usize,
 ) -> Result<usize, Ground>
     requires { TwoSides file.now g work.now frame.now left.old n right.old k }
-    ensures { Sides file.now g work.now frame.now left.old n right.old k (compared_says result) left.new right.new × Buffers left.new right.new }
+    ensures { Sides file.now g work.now frame.now left.old n right.old k (compared_says result) left.new right.new }
 {
     let l = replay(file, g.left, g.middle, Side::Left, left, n, work, frame)?;
     let r = replay(file, g.right, g.next, Side::Right, right, k, work, frame)?;
@@ -170,8 +170,8 @@ fn compare_type(
     n: usize,
     right: &mut Letters,
 ) -> Result<usize, Ground>
-    requires { Typing file.now work.now at frame.now m e left.old n × Buffers left.old right.old }
-    ensures { ComparesType file.now work.now at frame.now m e left.old n (compared_says result) left.new right.new × Buffers left.new right.new }
+    requires { Typing file.now work.now at frame.now m e left.old n }
+    ensures { ComparesType file.now work.now at frame.now m e left.old n (compared_says result) left.new right.new }
 {
     if at >= file.len() {
         return Err(Ground::NoGroupLeft);

@@ -41,6 +41,7 @@ fn abstractor_after(s: &Letters, n: usize, m: usize, h: usize) -> Option<usize>
     let mut unmatched: usize = 0;
     let mut q = m;
     let mut symbol = symbol_of(s[q]);
+    // Kept: no counted index, since each turn goes on by the wagon that `end_of` measures.
     while symbol >= APPLICATOR {
         if symbol == APPLICATOR {
             unmatched += 1;
@@ -73,6 +74,7 @@ fn couple_at(s: &Letters, n: usize, p: usize) -> Result<Couple, Reason>
     };
     let q = end_of(s, n, a + 1, h + 1);
     let e = end_of(s, n, q, h);
+    // Kept: `as`, since Rust has no `From` here; the passes over letters are in 32 bits, as letters are, so that they are vectorised.
     Ok(Couple {
         outer: depth_of(v) as u32,
         depth: depth_of(s[a]) as u32,
@@ -85,6 +87,7 @@ fn couple_at(s: &Letters, n: usize, p: usize) -> Result<Couple, Reason>
 
 // ---- The rest of a couple, without its abstractor.
 // How often its variable is used, and the depth of its deepest use, 0 if there is none.
+// Kept: no Option, since the largest depth of none is 0, and the sum that tests the scope takes it as it is.
 #[derive(Clone, Copy)]
 struct Uses {
     count: u32,
@@ -117,6 +120,7 @@ fn lower_part(rest: &mut [u32], c: u32)
 }
 
 // Whether the letter x is a use of the variable of an abstractor of depth c.
+// Kept: `is_use`, `use_depth` and `lowered_letter` each ask c < depth of x: a struct of the two would be made anew for each letter.
 fn is_use(x: u32, c: u32) -> bool
     requires { c < depth_of x }
     ensures { result ≡ is_use c x }
@@ -176,6 +180,7 @@ fn fill_letter(s: &Letters, p: usize, x: Couple, y: u32, out: &mut [u32], j: usi
     }
     let argument = &s[p + 1..x.between];
     let end = j + argument.len();
+    // Kept: `as`, for the same reason as in `couple_at`.
     let k = depth_of(y) as u32 - 1 - x.outer;
     lift_to(argument, x.outer, k, height_of(y) as u32, &mut out[j..end]);
     end
@@ -226,6 +231,7 @@ fn whole(s: &mut Letters, n: usize, p: usize, len: usize) -> Result<usize, StepE
     let x = couple_at(s, n, p)?;
     let uses = measure(&s[x.rest..x.end], x.depth);
     let kept = n - (x.end - p) + (x.abstractor - x.between);
+    // Kept: `as` here and below, for the same reason as in `couple_at`.
     let size = x.end - x.rest + uses.count as usize * (x.between - p - 2);
     if kept + size > LONGEST_TERM {
         return Err(StepError::Outgrown);
@@ -250,6 +256,7 @@ pub fn step_in_place(
     requires { SomeHeld work.now frame.now s.old n }
     ensures { Steps work.now frame.now s.old s.new n (record { kind = kind; place = place }) result }
 {
+    // Kept: the kind is a byte of the file, and any may stand there; an enum would be made here and matched here.
     match kind {
         1..=3 if place >= n => Err(StepError::NotPossible(Reason::PastEnd)),
         1 => local(s, n, work, frame, place),

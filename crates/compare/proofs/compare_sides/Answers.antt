@@ -7,20 +7,20 @@ use Rattle.compare.proofs.compare_sides.Goals as goal
 
 pub returns-in_err-l : goal.returns-in_err-l
 returns-in_err-l c = let e = err_from_is_err_and c.from_residual.result c.from_residual.ensures.1 in
-    rw (e.1, e.2) (left_stops c.in_err-l.ensures, record { left_long = c.replay.ensures.array; right_long = c.requires.right_body.held.array })
+    rw (e.1, e.2) (left_stops c.in_err-l.ensures)
 
 pub returns-in_err-r : goal.returns-in_err-r
 returns-in_err-r c = let e = err_from_is_err_and c.from_residual-in_err-r.result c.from_residual-in_err-r.ensures.1 in
-    rw (e.1, e.2) (right_stops c.in_ok-l.ensures c.in_err-r.ensures, record { left_long = c.replay.ensures.array; right_long = c.replay-2.ensures.array })
+    rw (e.1, e.2) (right_stops c.in_ok-l.ensures c.in_err-r.ensures)
 
 pub returns-then-l-r : goal.returns-then-l-r
-returns-then-l-r c = (lengths_differ c.in_ok-l.ensures c.in_ok-r.ensures c.if-l-r.true, record { left_long = c.replay.ensures.array; right_long = c.replay-2.ensures.array })
+returns-then-l-r c = lengths_differ c.in_ok-l.ensures c.in_ok-r.ensures c.if-l-r.true
 
 pub same-requires : goal.same-requires
-same-requires c = omega (arith, form_room c.in_ok-l.ensures c.requires.left_body, c.replay.ensures.array)
+same-requires c = omega (arith, form_room c.in_ok-l.ensures c.requires.left_body)
 
 pub returns-then-not-same : goal.returns-then-not-same
-returns-then-not-same c = (letters_differ c.in_ok-l.ensures c.in_ok-r.ensures c.if-l-r.false c.same.ensures c.if-not-same.true, record { left_long = c.replay.ensures.array; right_long = c.replay-2.ensures.array })
+returns-then-not-same c = letters_differ c.in_ok-l.ensures c.in_ok-r.ensures c.if-l-r.false c.same.ensures c.if-not-same.true
 
 pub returns : goal.returns
-returns c = (letters_agree c.in_ok-l.ensures c.in_ok-r.ensures c.if-l-r.false c.same.ensures c.if-not-same.false, record { left_long = c.replay.ensures.array; right_long = c.replay-2.ensures.array })
+returns c = letters_agree c.in_ok-l.ensures c.in_ok-r.ensures c.if-l-r.false c.same.ensures c.if-not-same.false
