@@ -67,7 +67,6 @@ module _ {w s : List ℕ} {p d h room : ℕ} {x : Source} (g : Sourced w s p d h
         index = m;
         deep = omega (arith, g.deep);
         high = g.high;
-        array = g.array;
         fits = g.fits;
       }
 

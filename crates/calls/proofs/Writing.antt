@@ -61,7 +61,6 @@ module _ {s b : List ℕ} (y : Bytes s) (m : length b ≡ longest_term) where
         index = omega arith;
         deep = omega arith;
         high = omega arith;
-        array = m;
         fits = omega arith;
       }
 
@@ -98,7 +97,7 @@ module _ {b : List ℕ} {n : ℕ} {t : Term} (h : InLetters b n t) (out : List �
   length_lies = omega (arith, length_encode t, h.lies.place)
 
   pub writable : n ≤ length out → BytesWritable b n out
-  writable l = record { term = t; lies = h.lies; array = h.array; fits = l }
+  writable l = record { term = t; lies = h.lies; fits = l }
 
   pub too_short : length out < n → answer 14 0 0 out ≡ handed out (encode t)
   unfolding handed

@@ -43,7 +43,6 @@ module _ {w b : List ℕ} {len from to : ℕ} (x : Loadable w b len from to) whe
       index = omega arith;
       deep = omega arith;
       high = omega (arith, load_ordered);
-      array = x.array;
       fits = omega arith;
     }
 

@@ -1,8 +1,7 @@
-// One byte of a pass over a term, which reads its bytes once, forward, with a stack of scopes in place of recursion; and the larger of two
-// numbers.
+// One byte of a pass over a term, which reads its bytes once, forward, with a stack of scopes in place of recursion.
 #![tactic(auto)]
 
-ghost use Rattle.std.specs.Prelude.{◌≡◌, ◌<◌, max};
+ghost use Rattle.std.specs.Prelude.{◌≡◌, ◌<◌};
 ghost use Rattle.indices.specs.Stack.{body_scope, StackReady, Advanced};
 
 // The parts of a term that are still to be read: the abstractors in scope at the one being read, and how many they are.
@@ -10,12 +9,6 @@ ghost use Rattle.indices.specs.Stack.{body_scope, StackReady, Advanced};
 pub struct Parts {
     pub scope: usize,
     pub count: usize,
-}
-
-pub fn larger(x: usize, y: usize) -> usize
-    ensures { result ≡ max x y }
-{
-    x.max(y)
 }
 
 // How many abstractors are in scope at the second part of an applicator or an abstractor.

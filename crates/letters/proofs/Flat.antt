@@ -86,7 +86,7 @@ module _ {s out₀ out : List ℕ} {from e k d h at above i j : ℕ} {t : Term} 
 -- ---- There is always room for no abstractor.
 module _ {s : List ℕ} {from e k d h room : ℕ} {out : List ℕ} {at : ℕ} where
   pub readable_flat : Readable s from e k d h room out at → Readable s from e k d h 0 out at
-  readable_flat r = record { standing = r.standing; index = r.index; deep = omega (arith, r.deep); high = r.high; array = r.array; fits = r.fits }
+  readable_flat r = record { standing = r.standing; index = r.index; deep = omega (arith, r.deep); high = r.high; fits = r.fits }
 
   pub reads_flat : {out' : List ℕ} → Reads s from e k d h 0 out out' at true → Reads s from e k d h room out out' at true
   reads_flat {out'} r = record { all = λ t a. go (r.all t a); same_length = r.same_length }

@@ -17,7 +17,6 @@ pub record Readable (s : List ℕ) (from e k d h room : ℕ) (out : List ℕ) (a
   pub index : k ≤ most_abstractors
   pub deep : d + room < depths
   pub high : h + e ≤ from + longest_term
-  pub array : length out ≡ longest_term
   pub fits : at + (e - from) ≤ longest_term
 
 pub data ReadAs (k d h room : ℕ) (out out' : List ℕ) (at : ℕ) (t : Term) : Bool → Type 0 where
@@ -36,7 +35,6 @@ pub record UpTo (s : List ℕ) (from e b : ℕ) : Type 0 where
 pub record BytesWritable (s : List ℕ) (n : ℕ) (out : List ℕ) : Type 0 where
   pub term : Term
   pub lies : Lies s 0 n 0 0 term
-  pub array : length s ≡ longest_term
   pub fits : n ≤ length out
 
 pub record Writes (s : List ℕ) (n : ℕ) (out out' : List ℕ) : Type 0 where

@@ -24,6 +24,7 @@ pub const ABSTRACTOR: usize = 1023;
 // One of height in a letter.
 const HEIGHT: usize = 1048576;
 
+#[tactic(auto, unfolding(crate::specs::Letters::letter))]
 pub fn letter_of(symbol: usize, depth: usize, height: usize) -> u32
     requires { (symbol < 1024) × (depth < 1024) × (height < 4096) }
     ensures { result ≡ letter symbol depth height }
@@ -57,6 +58,7 @@ pub fn height_of(x: u32) -> usize
 
 // ---- Bytes into letters.
 // The index x with d abstractors of its term in scope, lifted by k.
+#[tactic(auto, unfolding(calculus::specs::Terms::lift_index))]
 fn lifted_index(x: usize, d: usize, k: usize) -> usize
     requires { (x < 254) × (k ≤ most_abstractors) }
     ensures { (result ≡ lift_index k d x) × (result < 1024) }

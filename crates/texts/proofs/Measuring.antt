@@ -57,7 +57,6 @@ module _ {t : List ℕ} (g : WholeTerm t) (out : List ℕ) (n : length out ≡ l
     index = omega arith;
     deep = omega arith;
     high = omega (arith, g.short);
-    array = n;
     fits = omega (arith, g.short);
   }
 

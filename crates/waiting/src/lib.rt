@@ -23,12 +23,6 @@ pub struct Slot {
     pub scope: usize,
 }
 
-pub fn wide16(x: u16) -> usize
-    ensures { (result ≡ x) × (result < 65536) }
-{
-    x as usize
-}
-
 pub fn slot_at(list: &[u16], j: usize) -> Slot
     requires { 6 * j + 6 ≤ length list.now }
     ensures { (result ≡ slot_of list.now j) × SmallSlot result }

@@ -10,7 +10,7 @@ pub offset_bounds-s-i : goal.offset_bounds-s-i
 offset_bounds-s-i c = omega (arith, lies_end c.requires.lies)
 
 pub bounds-s-i : goal.bounds-s-i
-bounds-s-i c = omega (arith, lies_end c.requires.lies, c.requires.array)
+bounds-s-i c = omega (arith, lies_end c.requires.lies)
 
 pub loop-i-preserved : goal.loop-i-preserved
 loop-i-preserved c = writing_next c.loop-i.invariant c.loop-i-test.true (lies_end c.requires.lies).1 refl
