@@ -6,6 +6,7 @@ use mathlib.Core.List.{List, [], ◌∷◌, ◌++◌, map, map-append, zip_with}
 use native.Mathlib.Omega.{arith}
 use lib.ListN.{length, get_or, length-append, get_or-append}
 use lib.Seq.{get_or-append-add}
+use Rattle.std.proofs.lemmas.List.{get_or-map}
 use borrow.Author.Tests.{le-leb, lt-ltb}
 use Rattle.calculus.specs.Terms.{Term, tau, var, app, abs, size, lift_index, lift}
 use Rattle.code.specs.Code.{encode, Coded, coded_tau, coded_var, coded_app, coded_abs}
@@ -61,13 +62,8 @@ depths_more n d (var k) = refl
 depths_more n d (app K B) = ap ((n + d) ∷◌) (ap₂ ◌++◌ (depths_more n d K) (depths_more n d B) ∙ sym (map-append (n +◌) (depths_of d K) (depths_of d B)))
 depths_more n d (abs U B) = let q : suc (n + d) ≡ n + suc d = omega arith in ap ((n + d) ∷◌) (ap₂ ◌++◌ (depths_more n d U) (ap (λ m. depths_of m B) q ∙ depths_more n (suc d) B) ∙ sym (map-append (n +◌) (depths_of d U) (depths_of (suc d) B)))
 
-map_at : (f : ℕ → ℕ) (xs : List ℕ) (i : ℕ) → i < length xs → get_or (map f xs) i 0 ≡ f (get_or xs i 0)
-map_at f [] i l = absurd (omega arith)
-map_at f (x ∷ xs) zero l = refl
-map_at f (x ∷ xs) (suc i) l = map_at f xs i (omega arith)
-
 depth_from : (d : ℕ) (X : Term) (i : ℕ) → i < size X → get_or (depths_of d X) i 0 ≡ d + depth_in X i
-depth_from d X i l = ap (λ n. get_or (depths_of n X) i 0) (omega arith) ∙ ap (λ x. get_or x i 0) (depths_more d 0 X) ∙ map_at (d +◌) (depths_of 0 X) i (omega (arith, length_depths 0 X))
+depth_from d X i l = ap (λ n. get_or (depths_of n X) i 0) (omega arith) ∙ ap (λ x. get_or x i 0) (depths_more d 0 X) ∙ get_or-map (d +◌) (depths_of 0 X) i 0 0 (omega (arith, length_depths 0 X))
 
 -- ---- A term starts at every byte of a term, and its symbols have their depths.
 pub record Deep (depths : List ℕ) (p d : ℕ) (X : Term) : Type 0 where
