@@ -11,6 +11,8 @@ ghost use Rattle.waiting.specs.Writing.{Moved, Raised, Copied, PutAsked, Puts};
 use code::numbers::LONGEST_STATE;
 use frames::Work;
 
+// Kept: the list is of numbers and not of these, since with fields of 16 bits each of the walk's uses would convert what slot_at and
+// store_slot convert in one place, and with fields of 64 the lists would take four times the stack.
 // A waiting applicator: its place in the term or, for a copy, in the text that it is a copy of; where its bytes stand in the work array;
 // the frame's depth when it was met; the lift that its K is seen through; and the scope of what waited before it.
 #[derive(Clone, Copy)]
