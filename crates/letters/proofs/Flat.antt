@@ -8,7 +8,6 @@ use native.Mathlib.Omega.{arith}
 use native.Mathlib.Nat.{add-zero}
 use native.Mathlib.Numerals.{add-one}
 use lib.ListN.{get_or, set, drop, replicate, length-replicate}
-use lib.Seq.{get_or-take, get_or-drop}
 use borrow.Author.Tests.{lt-ltb}
 use Rattle.calculus.specs.Terms.{Term, lift_index}
 use Rattle.code.specs.Limits.{longest_term}
@@ -21,12 +20,8 @@ use Rattle.letters.specs.Clauses.{UpTo, Readable, ReadAs, read_all, Reads}
 use Rattle.letters.proofs.Reading.{Stored, terminal_stored, operator_stored, Reading, reading_start, reading_ready, reading_next, reading_high, reading_length, reading_end}
 
 -- ---- The largest byte.
-pub up_to_part : {s : List ℕ} {from e b c : ℕ} → ((i : ℕ) → get_or (part s from e) i 0 ≤ b) → b ≤ c → UpTo s from e c
-up_to_part {s} {from} {e} u m = record {
-  bound = λ q a g.
-      let there : from + (q - from) ≡ q = omega arith in
-      omega (arith, rw (get_or-take (e - from) (drop from s) (q - from) 0 (omega arith), get_or-drop from s (q - from) 0, there) at (u (q - from)));
-}
+pub up_to_all : {s : List ℕ} {e b c : ℕ} → ((i : ℕ) → get_or s i 0 ≤ b) → b ≤ c → UpTo s 0 e c
+up_to_all u m = record { bound = λ q a g. omega (arith, u q) }
 
 -- ---- A stack of zeros.
 zeros : (n i : ℕ) → ◌≡◌ {A = ℕ} (get_or (replicate n 0) i 0) 0

@@ -4,3 +4,4 @@ pub mod Letters
 pub mod Reading
 pub mod Flat
 pub mod Writing
+pub mod Part

@@ -68,8 +68,6 @@ fn lifted_index(x: usize, d: usize, k: usize) -> usize
 
 fn read_with(
     s: &[u8],
-    from: usize,
-    to: usize,
     k: usize,
     d: usize,
     h: usize,
@@ -78,26 +76,25 @@ fn read_with(
     at: usize,
     stack: &mut [u16],
 ) -> bool
-    requires { Readable s.now from to k d h room out.old at × Roomy stack.old from to }
-    ensures { Reads s.now from to k d h room out.old out.new at result }
+    requires { Readable s.now 0 (length s.now) k d h room out.old at × Roomy stack.old 0 (length s.now) }
+    ensures { Reads s.now 0 (length s.now) k d h room out.old out.new at result }
 {
     let mut scope: usize = 0;
     let mut count: usize = 1;
-    for i in from..to {
+    for (i, b) in s.iter().enumerate() {
         if scope > room {
             return false;
         }
-        let b = s[i];
-        let x = usize::from(b);
+        let x = usize::from(*b);
         let depth = d + scope;
         let height = h + (count - 1);
-        let symbol = if b < 0xfe {
+        let symbol = if *b < 0xfe {
             lifted_index(x, scope, k)
         } else {
             x + 768
         };
-        out[at + (i - from)] = letter_of(symbol, depth, height);
-        let parts = advance(stack, scope, count, b);
+        out[at + i] = letter_of(symbol, depth, height);
+        let parts = advance(stack, scope, count, *b);
         scope = parts.scope;
         count = parts.count;
     }
@@ -120,28 +117,24 @@ fn largest_byte(s: &[u8]) -> u8
 // next letter without its symbol, one higher, so that the last terminal leaves no height below 0.
 fn read_flat(
     s: &[u8],
-    from: usize,
-    to: usize,
     k: usize,
     d: usize,
     h: usize,
     out: &mut Letters,
     at: usize,
 )
-    requires { Readable s.now from to k d h 0 out.old at × UpTo s.now from to 0xfe }
-    ensures { Reads s.now from to k d h 0 out.old out.new at true }
+    requires { Readable s.now 0 (length s.now) k d h 0 out.old at × UpTo s.now 0 (length s.now) 0xfe }
+    ensures { Reads s.now 0 (length s.now) k d h 0 out.old out.new at true }
 {
     let mut above = d * 1024 + (h + 1) * HEIGHT;
-    for i in from..to {
-        let b = s[i];
-        let x = usize::from(b);
+    for (i, b) in s.iter().enumerate() {
+        let x = usize::from(*b);
         let here = above - HEIGHT;
-        let j = at + (i - from);
-        if b < 0xfe {
-            out[j] = (here + lifted_index(x, 0, k)) as u32;
+        if *b < 0xfe {
+            out[at + i] = (here + lifted_index(x, 0, k)) as u32;
             above = here;
         } else {
-            out[j] = (here + x + 768) as u32;
+            out[at + i] = (here + x + 768) as u32;
             above += HEIGHT;
         }
     }
@@ -151,8 +144,6 @@ fn read_flat(
 #[inline(never)]
 fn read_scoped(
     s: &[u8],
-    from: usize,
-    to: usize,
     k: usize,
     d: usize,
     h: usize,
@@ -160,23 +151,21 @@ fn read_scoped(
     out: &mut Letters,
     at: usize,
 ) -> bool
-    requires { Readable s.now from to k d h room out.old at }
-    ensures { Reads s.now from to k d h room out.old out.new at result }
+    requires { Readable s.now 0 (length s.now) k d h room out.old at }
+    ensures { Reads s.now 0 (length s.now) k d h room out.old out.new at result }
 {
-    if to - from < 127 {
+    if s.len() < 127 {
         let mut small: [u16; 64] = [0; 64];
-        return read_with(s, from, to, k, d, h, room, out, at, &mut small[..]);
+        return read_with(s, k, d, h, room, out, at, &mut small[..]);
     }
     let mut stack: [u16; 2049] = [0; 2049];
-    read_with(s, from, to, k, d, h, room, out, at, &mut stack[..])
+    read_with(s, k, d, h, room, out, at, &mut stack[..])
 }
 
-// The term that stands in s from `from` up to `to`, lifted by k, as letters from `at` on: its first at depth d and height h. Not, if
+// The term that s holds, lifted by k, as letters from `at` on: its first at depth d and height h. Not, if
 // more than `room` of its abstractors are in scope anywhere.
 pub fn read(
     s: &[u8],
-    from: usize,
-    to: usize,
     k: usize,
     d: usize,
     h: usize,
@@ -184,20 +173,20 @@ pub fn read(
     out: &mut Letters,
     at: usize,
 ) -> bool
-    requires { Readable s.now from to k d h room out.old at }
-    ensures { Reads s.now from to k d h room out.old out.new at result }
+    requires { Readable s.now 0 (length s.now) k d h room out.old at }
+    ensures { Reads s.now 0 (length s.now) k d h room out.old out.new at result }
 {
     // most terms are one byte, which is a terminal
-    if to - from == 1 {
-        let x = usize::from(s[from]);
+    if s.len() == 1 {
+        let x = usize::from(s[0]);
         out[at] = letter_of(lifted_index(x, 0, k), d, h);
         return true;
     }
-    if largest_byte(&s[from..to]) < 0xff {
-        read_flat(s, from, to, k, d, h, out, at);
+    if largest_byte(s) < 0xff {
+        read_flat(s, k, d, h, out, at);
         return true;
     }
-    read_scoped(s, from, to, k, d, h, room, out, at)
+    read_scoped(s, k, d, h, room, out, at)
 }
 
 // ---- Letters into bytes.

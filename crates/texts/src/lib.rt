@@ -65,7 +65,7 @@ pub fn measure(
     ensures { Sized t.now sizes.new scopes.new × (length letters.new ≡ longest_term) × (length sizes.new ≡ length sizes.old) × (length scopes.new ≡ length scopes.old) × Depths t.now depths.new × (length depths.new ≡ length depths.old) }
 {
     let n = t.len();
-    read(t, 0, n, 0, 0, 0, MOST_ABSTRACTORS, letters, 0);
+    read(t, 0, 0, 0, MOST_ABSTRACTORS, letters, 0);
     note_depths(letters, n, depths);
     for i in (0..n).rev() {
         let v = extent_at(letters, sizes, scopes, i);
