@@ -225,7 +225,7 @@ fn write_source(
     ensures { SourceWritten work.now s.old s.new p d h room x result }
 {
     match x.holder {
-        Holder::TheFrame => read(work, x.start, x.end, x.lift, d, h, room, s, p),
+        Holder::TheFrame => read(&work[x.start..x.end], x.lift, d, h, room, s, p),
         Holder::TheBody => {
             let c = (d - x.lift) as u32;
             let (before, place) = s.split_at_mut(p);

@@ -42,8 +42,7 @@ fn open_body(s: &[u8], body: &mut Letters)
     requires { AcceptedTerm s.now × (length body.old ≡ longest_term) }
     ensures { OpenedBody s.now body.new }
 {
-    let n = s.len();
-    letters::read(s, 0, n, 0, 0, 0, MOST_ABSTRACTORS, body, 0);
+    letters::read(s, 0, 0, 0, MOST_ABSTRACTORS, body, 0);
 }
 
 // `write_type` for a term that is accepted.

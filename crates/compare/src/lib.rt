@@ -102,7 +102,7 @@ fn load(work: &Work, from: usize, to: usize, len: usize, body: &mut Letters) -> 
     if to - from > LONGEST_TERM {
         return false;
     }
-    read(work, from, to, 0, 0, 0, MOST_ABSTRACTORS - len, body, 0)
+    read(&work[from..to], 0, 0, 0, MOST_ABSTRACTORS - len, body, 0)
 }
 
 // The steps of a side, which stand in the file from `from` up to `to`, replayed on the body in the first n letters: the length of the form.

@@ -2,13 +2,19 @@
 -- Assumes nothing.
 use Rattle.std.proofs.Common.{refl}
 use Rattle.bodies.proofs.Putting.{source_readable, source_read, source_some, source_room, source_deep, source_liftable, source_lifted}
+use native.Mathlib.Omega.{arith}
+use Rattle.code.proofs.Parts.{stands_end}
+use Rattle.letters.proofs.Part.{readable_part, reads_part}
 use Rattle.bodies.proofs.write_source.Goals as goal
 
+pub slice_bounds-read-end : goal.slice_bounds-read-end
+slice_bounds-read-end c = omega (arith, stands_end (source_readable c.requires c.in-TheFrame.is).standing.stands, c.told-work)
+
 pub read-requires : goal.read-requires
-read-requires c = source_readable c.requires c.in-TheFrame.is
+read-requires c = readable_part (source_readable c.requires c.in-TheFrame.is)
 
 pub returns-in-TheFrame : goal.returns-in-TheFrame
-returns-in-TheFrame c = source_read c.requires c.in-TheFrame.is c.read.ensures
+returns-in-TheFrame c = source_read c.requires c.in-TheFrame.is (reads_part c.read.ensures)
 
 pub deepest-requires : goal.deepest-requires
 deepest-requires c = let e = c.split_at_mut-before.ensures in source_some c.requires c.in-TheBody.is _ _ e.value e.front_len refl
