@@ -3,8 +3,6 @@
 use native.Mathlib.Omega.{arith}
 use Rattle.code.proofs.Parts.{stands_end}
 use Rattle.compare.proofs.Bodies.{load_long, load_readable, load_read}
-use native.Mathlib.Omega.{arith}
-use Rattle.code.proofs.Parts.{stands_end}
 use Rattle.letters.proofs.Part.{readable_part, reads_part}
 use Rattle.compare.proofs.load.Goals as goal
 
