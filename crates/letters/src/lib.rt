@@ -115,14 +115,7 @@ fn largest_byte(s: &[u8]) -> u8
 // Kept: apart from `read_with`, whose stack made a file of 2,000 compared terms take twice the time (docs/BENCHMARK.md).
 // As `read_with`, where no byte is an abstractor: all depths are the same, and the parts still to be read need no stack. `above` is the
 // next letter without its symbol, one higher, so that the last terminal leaves no height below 0.
-fn read_flat(
-    s: &[u8],
-    k: usize,
-    d: usize,
-    h: usize,
-    out: &mut Letters,
-    at: usize,
-)
+fn read_flat(s: &[u8], k: usize, d: usize, h: usize, out: &mut Letters, at: usize)
     requires { Readable s.now 0 (length s.now) k d h 0 out.old at × UpTo s.now 0 (length s.now) 0xfe }
     ensures { Reads s.now 0 (length s.now) k d h 0 out.old out.new at true }
 {
