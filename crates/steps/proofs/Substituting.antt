@@ -1,7 +1,7 @@
 -- The whole substitution: what stands between, and the rest of the couple with K for each use, take the couple's place; and the steps that
 -- are none.
 -- Assumes nothing.
-use Prim.Native.Nat.{ℕ, suc, ◌+◌, ◌-◌, ◌≤◌, ◌<◌}
+use Prim.Native.Nat.{ℕ, suc, ◌+◌, ◌-◌, ◌*◌, ◌≤◌, ◌<◌}
 use mathlib.Core.Path.{◌≡◌, refl, ap, sym, subst, ◌∙◌}
 use mathlib.Core.Option.{some}
 use mathlib.Core.List.{List, [], ◌++◌}
@@ -18,6 +18,7 @@ use Rattle.calculus.proofs.Places.{step_past}
 use Rattle.code.specs.Limits.{longest_term, most_abstractors}
 use Rattle.code.specs.Scope.{scope}
 use Rattle.code.proofs.Scope.{scope_lift}
+use Rattle.parts.specs.Parts.{part}
 use Rattle.frames.specs.declared.FrameRecord.{FrameRecord}
 use Rattle.frames.proofs.Laws.{stored_depth}
 use Rattle.letters.specs.Letters.{letters}
@@ -28,16 +29,17 @@ use Rattle.bodies.specs.declared.Reason.TheVariants.{UnknownKind, PastEnd}
 use Rattle.bodies.specs.declared.StepError.TheVariants.{NotPossible, Outgrown}
 use Rattle.bodies.specs.Reasons.{said}
 use Rattle.bodies.specs.Held.{Held, Form, SteppedAs, step_refused, step_reached, Steps}
-use Rattle.bodies.specs.Moving.{Spliced}
+use Rattle.bodies.specs.Moving.{Spliced, DeepestIs}
 use Rattle.bodies.proofs.Extents.{first_height}
 use Rattle.bodies.proofs.Places.{over_long, too_deep, put_held}
 use Rattle.steps.specs.Couples.{InBodyAfter, instead, SomeCouple, remaining, CoupleAt, Searches}
-use Rattle.steps.specs.Filling.{filling, deepest_use, Rewritable}
+use Rattle.steps.specs.Filling.{filling, deepest_use, UsesAre, Rewritable}
 use Rattle.steps.specs.declared.Couple.{Couple}
+use Rattle.steps.specs.declared.Uses.{Uses}
 use Rattle.steps.proofs.Tails.{partner_along, instead_size, instead_scope, instead_letters}
 use Rattle.steps.proofs.Couples.{whole_here, bounds, couple_of_body, some_couple, couple_inside, places}
 use Rattle.steps.proofs.Filling.{filled_rest, rest_most, rest_least}
-use Rattle.steps.proofs.Writing.{DepthIs}
+use Rattle.steps.proofs.Writing.{DepthIs, size_is, depth_is}
 
 -- ---- A step of kind 3 on the couple.
 module _ {W : List ℕ} {f : FrameRecord} {s : List ℕ} {n p : ℕ} {R : Frame} {t : Term} {x : Couple} (y : Held W f s n R t) (o : CoupleAt s n p R t x) where
@@ -131,13 +133,25 @@ module _ {len : ℕ} {s : List ℕ} {n p : ℕ} (g : InBodyAfter len s n p) wher
     pub kept_inside : (x.end ≤ n) × (n ≤ longest_term)
     kept_inside = (couple_inside g.some_body c e, (bounds g.some_body).1)
 
-    module _ {r : ℕ} (q : r ≡ length (filling s p x)) where
-      pub long : longest_term < n - (x.end - p) + (x.abstractor - x.between) + r → (w : List ℕ) (f : FrameRecord) → f.len ≡ len → Steps w f s s n (record { kind = 3; place = p }) (Err Outgrown)
-      long h w f l = record { all = λ R t y. longer y (couple_of_body g.some_body c e y) q h; same_length = refl }
+    module _ {y : Uses} (u : UsesAre (part s x.rest x.end) x.depth y) where
+      abbrev r : ℕ
+      r = x.end - x.rest + y.count * (x.between - p - 2)
 
-      module _ {d : ℕ} (a : DepthIs s p x d) where
+      q : r ≡ length (filling s p x)
+      q = size_is the_couple u.count_is
+
+      pub long : longest_term < n - (x.end - p) + (x.abstractor - x.between) + r → (w : List ℕ) (f : FrameRecord) → f.len ≡ len → Steps w f s s n (record { kind = 3; place = p }) (Err Outgrown)
+      long h w f l = record { all = λ R t h₀. longer h₀ (couple_of_body g.some_body c e h₀) q h; same_length = refl }
+
+      module _ {most : ℕ} (m : DeepestIs (part s (p + 1) x.between) most) where
+        abbrev d : ℕ
+        d = y.deepest + (most - x.outer)
+
+        a : DepthIs s p x d
+        a = depth_is the_couple m u.deepest_is
+
         pub deep : most_abstractors - len + 1 < d → (w : List ℕ) (f : FrameRecord) → f.len ≡ len → Steps w f s s n (record { kind = 3; place = p }) (Err Outgrown)
-        deep h w f l = record { all = λ R t y. deeper y (couple_of_body g.some_body c e y) q a (omega (arith, stored_depth y.stored)); same_length = refl }
+        deep h w f l = record { all = λ R t h₀. deeper h₀ (couple_of_body g.some_body c e h₀) q a (omega (arith, stored_depth h₀.stored)); same_length = refl }
 
         module _ (h : n - (x.end - p) + (x.abstractor - x.between) + r ≤ longest_term) (b : d ≤ most_abstractors - len + 1) where
           pub rewritable : Rewritable s n p x r
@@ -152,7 +166,7 @@ module _ {len : ℕ} {s : List ℕ} {n p : ℕ} (g : InBodyAfter len s n p) wher
 
           pub done : {s' : List ℕ} → Spliced s s' n p x.end (remaining s x ++ filling s p x) → (w : List ℕ) (f : FrameRecord) → f.len ≡ len
               → Steps w f s s' n (record { kind = 3; place = p }) (Ok (n - (x.end - p) + (x.abstractor - x.between) + r))
-          done o w f l = record { all = λ R t y. substituted y (couple_of_body g.some_body c e y) q a (omega (arith, stored_depth y.stored)) h o; same_length = o.same_length }
+          done o w f l = record { all = λ R t h₀. substituted h₀ (couple_of_body g.some_body c e h₀) q a (omega (arith, stored_depth h₀.stored)) h o; same_length = o.same_length }
 
 -- ---- No step.
 kind_known : (k : ℕ) → 1 ≤ k → k ≤ 3 → (κ : Kind) × (kind_in latest k ≡ some κ)

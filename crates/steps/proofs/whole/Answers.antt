@@ -3,7 +3,7 @@
 use Rattle.std.proofs.lemmas.Result.{err_from_is_err_and}
 use native.Mathlib.Omega.{arith}
 use Rattle.steps.proofs.Couples.{in_scope, search_refused}
-use Rattle.steps.proofs.Writing.{size_is, K_lies, K_deep, depth_is}
+use Rattle.steps.proofs.Writing.{K_lies, K_deep}
 use Rattle.steps.proofs.Substituting.{the_couple, long, deep, rewritable, done}
 use Rattle.steps.proofs.whole.Goals as goal
 
@@ -14,7 +14,7 @@ pub measure-uses-requires : goal.measure-uses-requires
 measure-uses-requires c = in_scope (the_couple c.requires c.couple_at.ensures.sought c.in_ok-x.was)
 
 pub returns-then-kept-size-gt-LONGEST_TERM : goal.returns-then-kept-size-gt-LONGEST_TERM
-returns-then-kept-size-gt-LONGEST_TERM c = long c.requires c.couple_at.ensures.sought c.in_ok-x.was (size_is (the_couple c.requires c.couple_at.ensures.sought c.in_ok-x.was) c.measure-uses.ensures.count_is) c.if-kept-size-gt-LONGEST_TERM.true
+returns-then-kept-size-gt-LONGEST_TERM c = long c.requires c.couple_at.ensures.sought c.in_ok-x.was c.measure-uses.ensures c.if-kept-size-gt-LONGEST_TERM.true
 
 pub deepest-requires : goal.deepest-requires
 deepest-requires c = K_lies (the_couple c.requires c.couple_at.ensures.sought c.in_ok-x.was)
@@ -26,10 +26,10 @@ pub overflow_add-most : goal.overflow_add-most
 overflow_add-most c = omega (arith, K_deep (the_couple c.requires c.couple_at.ensures.sought c.in_ok-x.was) c.deepest.ensures, c.measure-uses.ensures.small)
 
 pub returns-then-most-len : goal.returns-then-most-len
-returns-then-most-len c = deep c.requires c.couple_at.ensures.sought c.in_ok-x.was (size_is (the_couple c.requires c.couple_at.ensures.sought c.in_ok-x.was) c.measure-uses.ensures.count_is) (depth_is (the_couple c.requires c.couple_at.ensures.sought c.in_ok-x.was) c.deepest.ensures c.measure-uses.ensures.deepest_is) (omega (arith, c.if-most-len.true))
+returns-then-most-len c = deep c.requires c.couple_at.ensures.sought c.in_ok-x.was c.measure-uses.ensures c.deepest.ensures (omega (arith, c.if-most-len.true))
 
 pub substitute-requires : goal.substitute-requires
-substitute-requires c = rewritable c.requires c.couple_at.ensures.sought c.in_ok-x.was (size_is (the_couple c.requires c.couple_at.ensures.sought c.in_ok-x.was) c.measure-uses.ensures.count_is) (depth_is (the_couple c.requires c.couple_at.ensures.sought c.in_ok-x.was) c.deepest.ensures c.measure-uses.ensures.deepest_is) c.if-kept-size-gt-LONGEST_TERM.false (omega (arith, c.if-most-len.false))
+substitute-requires c = rewritable c.requires c.couple_at.ensures.sought c.in_ok-x.was c.measure-uses.ensures c.deepest.ensures c.if-kept-size-gt-LONGEST_TERM.false (omega (arith, c.if-most-len.false))
 
 pub returns : goal.returns
-returns c = done c.requires c.couple_at.ensures.sought c.in_ok-x.was (size_is (the_couple c.requires c.couple_at.ensures.sought c.in_ok-x.was) c.measure-uses.ensures.count_is) (depth_is (the_couple c.requires c.couple_at.ensures.sought c.in_ok-x.was) c.deepest.ensures c.measure-uses.ensures.deepest_is) c.if-kept-size-gt-LONGEST_TERM.false (omega (arith, c.if-most-len.false)) c.substitute.ensures
+returns c = done c.requires c.couple_at.ensures.sought c.in_ok-x.was c.measure-uses.ensures c.deepest.ensures c.if-kept-size-gt-LONGEST_TERM.false (omega (arith, c.if-most-len.false)) c.substitute.ensures
