@@ -28,8 +28,7 @@ use Rattle.verdict.proofs.Promises.{passing}
 use Rattle.files.specs.File.{Opened, refused, opened, open_term, open_fields, open_file}
 use Rattle.files.specs.Check.{groups_of, left_over, check_answer_of, check_opened_by, check_file_by, check_file}
 use Rattle.files.proofs.Answers.{opens, term_bytes_lem, says as answer_says}
-use Rattle.walk.specs.Clauses.{Answers, answer_passed, answer_stopped, Walkable, WalkAnswer}
-use Rattle.walk.specs.declared.Walked.{Walked}
+use Rattle.walk.specs.Clauses.{Walked, Answers, answer_passed, answer_stopped, Walkable, WalkAnswer}
 use Rattle.walk.proofs.Beginning.{halts_answer}
 use Rattle.checker.specs.Answer.{CheckedAs, Checked}
 use Rattle.checker.specs.Clauses.{OpenedAs, open_refused, opened_term, Openable, RunAs, run_passed, run_stopped, FileWalked}
@@ -133,7 +132,7 @@ module _ (s : List ℕ) {e : ℕ} (b : Bytes s) where
         go t gs o (passed q) h (answer_passed hs z c k p) = run_passed {q = q} (λ d. rw (left_groups t gs o q h hs k p, ← c) (f hs p d)) m x y v
         go t gs o (stopped g q) h (answer_stopped a c) = absurd ((halts_answer a).1 z)
 
-    pub groups_left_lem : w.number ≡ 0 → w.next < length s → FileWalked s e left right (record { number = 13; place = w.next; comparisons = w.comparisons; next = w.next; first = 0; second = 0; third = 0 })
+    pub groups_left_lem : w.number ≡ 0 → w.next < length s → FileWalked s e left right (record { number = 13; place = w.next; comparisons = w.comparisons; next = 0; first = 0; second = 0; third = 0 })
     unfolding left_over
     groups_left_lem z l = passes _ z (λ q. omega arith) refl refl refl more_left
       where

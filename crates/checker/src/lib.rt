@@ -3,13 +3,15 @@
 
 ghost use Rattle.compare.specs.Sides.{Buffers};
 ghost use Rattle.files.specs.File.{open_file};
+ghost use Rattle.walk.specs.Clauses.{walked_says};
 ghost use Rattle.checker.specs.Answer.{Checked};
 ghost use Rattle.checker.specs.Clauses.{OpenedAs, Openable, FileWalked};
 
-use code::numbers::{ACCEPTED, GROUPS_LEFT, LONGEST_TERM};
-use code::refusal::Refusal;
+use code::numbers::{ACCEPTED, LONGEST_TERM};
+use code::refusal::{Condition, Refusal};
+use compare::Ground;
 use letters::Letters;
-use walk::{Walked, walk_term};
+use walk::{Stopped, Walked, walk_term};
 
 // Number (0 if accepted), place, comparisons completed, degree.
 #[derive(Drop)]
@@ -39,38 +41,27 @@ pub fn open_file(s: &[u8]) -> Result<Opened, Refusal>
     Ok(Opened { end, degree })
 }
 
-// Walks the term of an opened file, which ends at `end`, with the groups after it; then 13. The ground of a refusal is as `walk` has it:
-// for 12 the two bodies stand in the lent arrays.
-pub fn walk_file(s: &[u8], end: usize, left: &mut Letters, right: &mut Letters) -> Walked
+// Walks the term of an opened file, which ends at `end`, with the groups after it; then no group may be left. What stops it is as `walk`
+// has it: of two bodies that differ, both stand in the lent arrays.
+pub fn walk_file(
+    s: &[u8],
+    end: usize,
+    left: &mut Letters,
+    right: &mut Letters,
+) -> Result<Walked, Stopped>
     requires { Openable s.now end × Buffers left.old right.old }
-    ensures { FileWalked s.now end left.new right.new result × Buffers left.new right.new }
+    ensures { FileWalked s.now end left.new right.new (walked_says result) × Buffers left.new right.new }
 {
     let part = fields::term_part(s, end);
-    let walked = walk_term(s, part, end, left, right);
-    if walked.number != ACCEPTED {
-        return walked;
-    }
-    let next = walked.next;
-    if next < s.len() {
-        return Walked {
-            number: GROUPS_LEFT,
-            place: next,
+    let walked = walk_term(s, part, end, left, right)?;
+    if walked.next < s.len() {
+        return Err(Stopped {
+            by: Ground::GroupsLeft,
+            place: walked.next,
             comparisons: walked.comparisons,
-            next,
-            first: 0,
-            second: 0,
-            third: 0,
-        };
+        });
     }
-    Walked {
-        number: ACCEPTED,
-        place: 0,
-        comparisons: walked.comparisons,
-        next,
-        first: 0,
-        second: 0,
-        third: 0,
-    }
+    Ok(walked)
 }
 
 // Checks a file.
@@ -90,11 +81,18 @@ pub fn check(s: &[u8]) -> CheckAnswer
     };
     let mut left: Letters = [0; LONGEST_TERM];
     let mut right: Letters = [0; LONGEST_TERM];
-    let walked = walk_file(s, opened.end, &mut left, &mut right);
-    CheckAnswer {
-        number: walked.number,
-        place: walked.place,
-        comparisons: walked.comparisons,
-        degree: opened.degree,
+    match walk_file(s, opened.end, &mut left, &mut right) {
+        Ok(walked) => CheckAnswer {
+            number: ACCEPTED,
+            place: 0,
+            comparisons: walked.comparisons,
+            degree: opened.degree,
+        },
+        Err(stopped) => CheckAnswer {
+            number: u32::from(Condition::from(stopped.by)),
+            place: stopped.place,
+            comparisons: stopped.comparisons,
+            degree: opened.degree,
+        },
     }
 }

@@ -29,10 +29,11 @@ use Rattle.files.specs.File.{opened, open_file}
 use Rattle.files.specs.Check as files
 use Rattle.files.specs.Check.{groups_of, check_answer_of, check_opened_by}
 use Rattle.compare.specs.Sides.{Buffers}
-use Rattle.compare.specs.Answers.{Compared}
+use Rattle.compare.specs.Answers.{Compared, ground_says}
+use Rattle.compare.specs.declared.Ground.{Ground as Halt}
+use Rattle.compare.specs.declared.Ground.TheVariants.{NoType, StillWaiting, NoGroupLeft, StepNotPossible, Outgrown, BodiesDiffer, GroupsLeft, NotReached}
 use Rattle.compare.specs.Compares.{GroundIs, is_untyped, is_no_group, is_refused, is_type_outgrown, is_domain_outgrown, is_step_outgrown, is_different}
-use Rattle.walk.specs.Clauses.{Halts, halts_waiting, halts_outgrown, halts_compared}
-use Rattle.walk.specs.declared.Walked.{Walked}
+use Rattle.walk.specs.Clauses.{Walked, Halts, halts_waiting, halts_outgrown, halts_compared}
 use Rattle.checker.specs.Clauses.{OpenedAs, RunAs, run_passed, run_stopped, FileWalked}
 use Rattle.files.proofs.Answers.{opens, closed}
 use Rattle.checker.proofs.Checking.{refused_is, answer_of}
@@ -108,6 +109,17 @@ told_run : (x : files.CheckAnswer) (left right : List ℕ) {gs : List GroupAt} {
 unfolding explain_run
 told_run x left right (run_passed f m p q r) n = rw (p, q, r) refl
 told_run x left right (run_stopped h c) n = told_ground x left right h n
+
+-- nothing else has the number 12
+pub other_number : (h : Halt) → ((n k : ℕ) → h ≡ BodiesDiffer n k → ⊥) → (ground_says h).number ≡ 12 → ⊥
+other_number NoType f e = omega arith
+other_number (StillWaiting n) f e = omega arith
+other_number NoGroupLeft f e = omega arith
+other_number (StepNotPossible side n why) f e = omega arith
+other_number Outgrown f e = omega arith
+other_number (BodiesDiffer n k) f e = f n k refl
+other_number GroupsLeft f e = omega arith
+other_number NotReached f e = omega arith
 
 -- the bodies of a 12
 record Bodies (a b : List ℕ) (w : Walked) (z : Run) : Type 0 where

@@ -8,7 +8,9 @@ ghost use Rattle.explaining.specs.Clauses.{explained_says, TwoBodies, Delivers};
 ghost use Rattle.explaining.specs.Claims.{Differing, Promises};
 
 use checker::{open_file, walk_file};
-use code::numbers::{BODIES_DIFFER, BUFFER_TOO_SHORT, LONGEST_TERM};
+use code::numbers::{ACCEPTED, BODIES_DIFFER, BUFFER_TOO_SHORT, LONGEST_TERM};
+use code::refusal::Condition;
+use compare::Ground;
 use letters::Letters;
 
 // The check's four numbers, and then: for 12 the lengths of the two bodies and the place of the first byte at which they differ; for 10
@@ -105,28 +107,34 @@ pub fn explain(s: &[u8], left: &mut [u8], right: &mut [u8]) -> Explained
     let degree = opened.degree;
     let mut a: Letters = [0; LONGEST_TERM];
     let mut b: Letters = [0; LONGEST_TERM];
-    let walked = walk_file(s, opened.end, &mut a, &mut b);
-    if walked.number == BODIES_DIFFER {
-        return deliver(
-            walked.place,
-            walked.comparisons,
-            degree,
-            &a,
-            walked.first,
-            &b,
-            walked.second,
-            left,
-            right,
-        );
-    }
+    let walked = match walk_file(s, opened.end, &mut a, &mut b) {
+        Ok(walked) => walked,
+        Err(stopped) => {
+            let place = stopped.place;
+            let comparisons = stopped.comparisons;
+            if let Ground::BodiesDiffer { left: n, right: k } = stopped.by {
+                return deliver(place, comparisons, degree, &a, n, &b, k, left, right);
+            }
+            let (first, second, third) = stopped.by.numbers();
+            return Explained {
+                number: u32::from(Condition::from(stopped.by)),
+                place,
+                comparisons,
+                degree,
+                first,
+                second,
+                third,
+            };
+        }
+    };
     Explained {
-        number: walked.number,
-        place: walked.place,
+        number: ACCEPTED,
+        place: 0,
         comparisons: walked.comparisons,
         degree,
-        first: walked.first,
-        second: walked.second,
-        third: walked.third,
+        first: 0,
+        second: 0,
+        third: 0,
     }
 }
 

@@ -1,10 +1,11 @@
 -- The walk as a whole.
 -- Assumes nothing.
-use Prim.Native.Nat.{ℕ, ◌≤◌, ◌<◌}
+use Prim.Native.Nat.{ℕ, ◌≤◌}
 use mathlib.Core.Path.{◌≡◌, refl, ap, sym, ◌∙◌}
 use mathlib.Core.List.{List, [], map}
 use native.Mathlib.Omega.{arith}
 use lib.ListN.{length}
+use Rattle.std.specs.Prelude.{Some, None, Result, Ok, Err}
 use Rattle.calculus.specs.Terms.{Term, size, Closed}
 use Rattle.calculus.specs.Frames.{ε}
 use Rattle.calculus.proofs.Lift.{lift_zero}
@@ -18,8 +19,9 @@ use Rattle.code.proofs.Parts.{stands_start, stands_self}
 use Rattle.fields.specs.Fields.{GroupAt, Groups}
 use Rattle.frames.specs.Stored.{EmptyRecord}
 use Rattle.frames.specs.declared.FrameRecord.{FrameRecord}
-use Rattle.compare.specs.Compares.{GroundIs, is_untyped, is_no_group, is_refused, is_type_outgrown, is_domain_outgrown, is_step_outgrown, is_different}
-use Rattle.compare.specs.Answers.{Compared}
+use Rattle.compare.specs.Answers.{number_of_ground, ground_says}
+use Rattle.compare.specs.declared.Ground.{Ground as Halt}
+use Rattle.compare.specs.declared.Ground.TheVariants.{NoType, StillWaiting, NoGroupLeft, StepNotPossible, Outgrown, BodiesDiffer, GroupsLeft, NotReached}
 use Rattle.compare.proofs.Grounds.{ground_number}
 use Rattle.texts.specs.Texts.{WholeTerm}
 use Rattle.texts.proofs.Origins.{origin_own}
@@ -28,26 +30,15 @@ use Rattle.verdict.specs.Verdict.{Ground, not_reached, number, place_of, Progres
 use Rattle.verdict.proofs.Promises.{never_not_reached}
 use Rattle.waiting.specs.Waiting.{terms_of, places, low_of, queue_none}
 use Rattle.walk.specs.State.{text_of, Arrays, sound_empty, no_notes, state_of, agenda_of, StateAt, Stated}
-use Rattle.walk.specs.Clauses.{start_of, list_full, longest_list, Halts, halts_waiting, halts_outgrown, halts_compared, Says, says_passed, says_stopped, says_never, says_full, Checks, Walkable, Answers, answer_passed, answer_stopped, WalkAnswer, WholeAnswer, whole_full, whole_answer}
-use Rattle.walk.specs.declared.Walked.{Walked}
+use Rattle.walk.specs.Clauses.{Walked, walked_says, start_of, longest_list, Halts, halts_waiting, halts_outgrown, halts_compared, Says, says_passed, says_stopped, says_never, says_full, Checks, Walkable, Answers, answer_passed, answer_stopped, WalkAnswer, WholeAnswer, whole_full, whole_answer}
+use Rattle.walk.specs.declared.Walked.{Walked as Passed}
+use Rattle.walk.specs.declared.Stopped.{Stopped as Halted}
+use Rattle.walk.specs.declared.Stop.{Stop}
+use Rattle.walk.specs.declared.Stop.TheVariants.{ListFull, Stopped}
 use Rattle.walk.proofs.States.{no_confusion}
 
 stands_whole : {t : List ℕ} {T : Term} → encode T ≡ t → Coded T → Stands t 0 (length t) T
 stands_whole {T = T} e c = let n : length (encode T) ≡ size T = length_encode T in rw (← e, n) (stands_self c)
-
-ground_small : {c : Compared} {a b : List ℕ} {g : Ground} → GroundIs c a b g → c.number < list_full
-ground_small (is_untyped e f g h) = omega arith
-ground_small (is_no_group e f g h) = omega arith
-ground_small (is_refused e f g h) = omega arith
-ground_small (is_type_outgrown e f g h) = omega arith
-ground_small (is_domain_outgrown e f g h) = omega arith
-ground_small (is_step_outgrown e f g h) = omega arith
-ground_small (is_different e f g h) = omega arith
-
-halts_small : {r : Walked} {a b : List ℕ} {g : Ground} → Halts r a b g → r.number < list_full
-halts_small (halts_waiting e f g h i) = omega arith
-halts_small (halts_outgrown e f g h i) = omega arith
-halts_small (halts_compared c e f g h i) = omega (arith, ground_small c)
 
 module _ {file t : List ℕ} {at : ℕ} (g : Walkable file t at) where
   size_is : size g.term ≡ length t
@@ -97,38 +88,37 @@ module _ {file t : List ℕ} {at : ℕ} (g : Walkable file t at) where
     pub begun : Stated (text_of file t) m f (start_of 0 0 at 0)
     begun = record { frame = ε; ww = []; qq = []; body = g.term; progress = _; at = begin g.term g.groups g.bytes g.closed g.shallow g.stand }
 
-    pub answered : {m' : Arrays} {a b : List ℕ} {r : Walked} → Checks (text_of file t) m m' f (start_of 0 0 at 0) a b r → WholeAnswer file t at (length m.list) a b r
-    unfolding agenda_of state_of terms_of places check_term_by
-    answered {a = a} {b = b} {r = r} k = decide (says g.term g.groups g.bytes g.closed g.shallow g.stand) (reached_term g.term g.closed g.groups)
-      where
-        says : (T : Term) (gs : List GroupAt) → encode T ≡ t → Closed 0 T → scope T ≤ most_abstractors → Groups file at gs → Says file (length m.list) a b r (check_term T (map (λ g. g.group) gs))
-        says T gs i c d s = k.all ε [] [] T _ (begin T gs i c d s)
+    module _ {m' : Arrays} {a b : List ℕ} where
+      says : {r : Result Passed Stop} → Checks (text_of file t) m m' f (start_of 0 0 at 0) a b r → (T : Term) (gs : List GroupAt) → encode T ≡ t → Closed 0 T → scope T ≤ most_abstractors → Groups file at gs
+          → Says file (length m.list) a b r (check_term T (map (λ g. g.group) gs))
+      unfolding agenda_of state_of terms_of places check_term_by
+      says k T gs i c d s = k.all ε [] [] T _ (begin T gs i c d s)
 
-        reached_term : (T : Term) → Closed 0 T → (gs : List GroupAt) → (i : ℕ) (q : Progress) → check_term T (map (λ g. g.group) gs) ≡ stopped (not_reached i) q → ⊥
-        reached_term T c gs i q o = never_not_reached T (map (λ g. g.group) gs) i q c o
+      pub answered_passed : {w : Passed} → Checks (text_of file t) m m' f (start_of 0 0 at 0) a b (Ok w) → WholeAnswer file t at (length m.list) a b (Some (Ok w))
+      answered_passed {w} k = whole_answer (record { all = λ T gs i c d s. go (says k T gs i c d s) })
+        where
+          go : {y : Run} → Says file (length m.list) a b (Ok w) y → Answers file a b (walked_says (Ok w)) y
+          go (says_passed j) = answer_passed j.groups refl (sym j.counted) j.left j.stand
 
-        go : (r.number ≡ list_full → ⊥) → (y : Run) → ((i : ℕ) (q : Progress) → y ≡ stopped (not_reached i) q → ⊥) → Says file (length m.list) a b r y → Answers file a b r y
-        go h y n (says_passed i j) = answer_passed j.groups i (sym j.counted) j.left j.stand
-        go h y n (says_stopped i j) = answer_stopped i j
-        go h y n (says_never {i} {q} j) = absurd (n i q refl)
-        go h y n (says_full i j) = absurd (h i)
+      pub answered_stopped : {h : Halted} → Checks (text_of file t) m m' f (start_of 0 0 at 0) a b (Err (Stopped h)) → WholeAnswer file t at (length m.list) a b (Some (Err h))
+      answered_stopped {h} k = whole_answer (record { all = λ T gs i c d s. go (check_term T (map (λ g. g.group) gs)) (λ j q o. never_not_reached T (map (λ g. g.group) gs) j q c o) (says k T gs i c d s) })
+        where
+          go : (y : Run) → ((i : ℕ) (q : Progress) → y ≡ stopped (not_reached i) q → ⊥) → Says file (length m.list) a b (Err (Stopped h)) y → Answers file a b (walked_says (Err h)) y
+          go y n (says_stopped i j) = answer_stopped i j
+          go y n (says_never {i = i} {q = q} j) = absurd (n i q refl)
 
-        rest : (r.number ≡ list_full → ⊥) → WholeAnswer file t at (length m.list) a b r
-        rest h = whole_answer (record { all = λ T gs i c d s. go h (check_term T (map (λ g. g.group) gs)) (reached_term T c gs) (says T gs i c d s) })
+      pub answered_full : Checks (text_of file t) m m' f (start_of 0 0 at 0) a b (Err ListFull) → WholeAnswer file t at (length m.list) a b None
+      answered_full k = go (says k g.term g.groups g.bytes g.closed g.shallow g.stand)
+        where
+          go : {y : Run} → Says file (length m.list) a b (Err ListFull) y → WholeAnswer file t at (length m.list) a b None
+          go (says_full j) = whole_full j
 
-        decide : {y : Run} → Says file (length m.list) a b r y → ((i : ℕ) (q : Progress) → y ≡ stopped (not_reached i) q → ⊥) → WholeAnswer file t at (length m.list) a b r
-        decide (says_passed i j) n = rest (λ o. omega arith)
-        decide (says_stopped i j) n = rest (λ o. omega (arith, halts_small i))
-        decide (says_never {i} {q} j) n = absurd (n i q refl)
-        decide (says_full i j) n = whole_full i j
+pub not_full : {file t : List ℕ} {at long : ℕ} {a b : List ℕ} {r : Result Passed Halted} → WholeAnswer file t at long a b (Some r) → WalkAnswer file t at a b (walked_says r)
+not_full (whole_answer i) = i
 
-pub not_full : {file t : List ℕ} {at long : ℕ} {a b : List ℕ} {r : Walked} → (r.number ≡ list_full → ⊥) → WholeAnswer file t at long a b r → WalkAnswer file t at a b r
-not_full h (whole_full i j) = absurd (h i)
-not_full h (whole_answer i) = i
-
-pub long_enough : {file t : List ℕ} {at : ℕ} {a b : List ℕ} {r : Walked} → WholeAnswer file t at longest_list a b r → WalkAnswer file t at a b r
-long_enough (whole_full i j) = absurd (omega arith)
-long_enough (whole_answer i) = i
+-- the longest list is not full
+pub long_enough : {file t : List ℕ} {at : ℕ} {a b : List ℕ} → WholeAnswer file t at longest_list a b None → ⊥
+long_enough (whole_full i) = omega arith
 
 -- what an answer shows of a ground
 pub halts_answer : {r : Walked} {a b : List ℕ} {g : Ground} → Halts r a b g → (r.number ≡ number g) × (r.number ≡ 0 → ⊥) × (r.place ≡ place_of g)
@@ -136,3 +126,14 @@ unfolding number place_of
 halts_answer (halts_waiting e f g h i) = (e, (λ z. omega arith), f)
 halts_answer (halts_outgrown e f g h i) = (e, (λ z. omega arith), f)
 halts_answer (halts_compared c e f g h i) = let n = ground_number c in (e ∙ n.0, (λ z. n.1 (sym e ∙ z)), f)
+
+-- the number of its condition
+pub number_told : (h : Halt) → number_of_ground h ≡ (ground_says h).number
+number_told NoType = refl
+number_told (StillWaiting n) = refl
+number_told NoGroupLeft = refl
+number_told (StepNotPossible side n why) = refl
+number_told Outgrown = refl
+number_told (BodiesDiffer n k) = refl
+number_told GroupsLeft = refl
+number_told NotReached = refl

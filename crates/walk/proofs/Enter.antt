@@ -8,7 +8,7 @@ use mathlib.Core.List.{List, [], ◌∷◌}
 use native.Mathlib.Omega.{arith}
 use native.Mathlib.Numerals.{add-one}
 use lib.ListN.{length, get_or, length-set}
-use Rattle.std.specs.Prelude.{Some}
+use Rattle.std.specs.Prelude.{Some, Result, Ok, Err}
 use Rattle.calculus.specs.Terms.{Term, abs, size, lift, Closed, closed_abs}
 use Rattle.calculus.specs.Frames.{Entry, single, pair, domain, Frame, ◌▹◌}
 use Rattle.calculus.specs.Walks.{states_of}
@@ -23,9 +23,10 @@ use Rattle.frames.specs.Stored.{Stored, Agree, EntryBytes, bytes_single, bytes_p
 use Rattle.frames.specs.declared.FrameRecord.{FrameRecord}
 use Rattle.frames.proofs.Entries.{agree_refl, agree_part, agree_trans, stands_agree, bytes_start}
 use Rattle.frames.proofs.Laws.{stored_depth, stored_push, stored_agree}
-use Rattle.compare.specs.Answers.{Compared}
+use Rattle.compare.specs.Answers.{Compared, ground_says, compared_says}
+use Rattle.compare.specs.declared.Ground.{Ground as Halt}
 use Rattle.compare.specs.Compares.{Comparing, CompareSays, compare_passed, compare_stopped, Compares}
-use Rattle.compare.proofs.Grounds.{ground_number}
+use Rattle.compare.proofs.Grounds.{ground_number, ground_stops}
 use Rattle.texts.specs.Texts.{Origin}
 use Rattle.texts.proofs.Origins.{origin_abs, origin_lift}
 use Rattle.verdict.specs.Bounds.{waiting_size, waiting_scope}
@@ -36,10 +37,10 @@ use Rattle.waiting.specs.declared.Slot.{Slot}
 use Rattle.waiting.proofs.Texts.{positive, Two, text_abs}
 use Rattle.waiting.proofs.Queues.{size_lifted, scope_lifted, queue_empty, queue_base, Last, queue_last, queue_deeper, queue_agree, queue_before, raw_size, now_part, waits_writable, waits_written, seen, waits_at, kept_through}
 use Rattle.walk.specs.State.{Text, Arrays, Sound, sound_single, sound_pair, Reached, state_of, rest_of, agenda_of, OwnText, StateAt}
-use Rattle.walk.specs.Clauses.{answering, past_of, DepthsKnown, halts_compared, says_stopped, Becomes, becomes_answer, becomes_state}
+use Rattle.walk.specs.Clauses.{stopped_by, past_of, settled_of, DepthsKnown, halts_compared, says_stopped, Becomes, becomes_answer, becomes_state}
 use Rattle.walk.specs.declared.WalkState.{WalkState}
 use Rattle.walk.specs.declared.Turned.{Turned}
-use Rattle.walk.specs.declared.Turned.TheVariants.{State}
+use Rattle.walk.specs.declared.Turned.TheVariants.{Answer, State}
 use Rattle.walk.proofs.Rules.{rest_alone, rest_waiting, rest_copied}
 use Rattle.walk.proofs.Measures.{fewer_abs}
 use Rattle.walk.proofs.Waits.{no_queue}
@@ -516,12 +517,12 @@ module _ {x : Text} {m : Arrays} {f : FrameRecord} {s : WalkState} {R : Frame} {
             becomes_at : {i : Turned} {v w : Run} → v ≡ w → Comes_to i w → Comes_to i v
             becomes_at e h = rw e h
 
-            pub waiting_stops : (d.number ≡ 0 → ⊥) → Comes_to (answering d.number v.place d.first d.second d.third s) (finish (rest_of s.own s.place R W Q B) p)
+            pub waiting_stops : (h : Halt) → d ≡ ground_says h → Comes_to (Answer (Err (stopped_by h v.place s))) (finish (rest_of s.own s.place R W Q B) p)
             unfolding and_then
-            waiting_stops h = becomes_at run_is (go compared)
+            waiting_stops h e = becomes_at run_is (go (rw e at compared))
               where
-                go : {r : Run} → CompareSays x.file s.next d left right last_waiting.last.place p r → Comes_to (answering d.number v.place d.first d.second d.third s) (and_then r (After R))
-                go (compare_passed gs i j k l m) = absurd (h i)
+                go : {r : Run} → CompareSays x.file s.next (ground_says h) left right last_waiting.last.place p r → Comes_to (Answer (Err (stopped_by h v.place s))) (and_then r (After R))
+                go (compare_passed gs i j k l m) = absurd (ground_stops h i)
                 go (compare_stopped i j k) = becomes_answer (says_stopped (halts_compared i refl (place_of_v ∙ sym j) refl refl refl) (sym z.reached.counted ∙ sym k))
 
             -- what is taken makes room at the end of the work array
@@ -544,3 +545,12 @@ module _ {x : Text} {m : Arrays} {f : FrameRecord} {s : WalkState} {R : Frame} {
                     (omega (arith, ap (λ r. r.scope) slot_is, w.scope_below, z.held.scope_is, z.held.scope_bound, sizes_waiting.1))
                     (record { groups = gs; stand = l; left = e; counted = omega (arith, c, z.reached.counted); few = omega (arith, j, z.reached.few); file_bound = z.reached.file_bound }))
                     refl (fewer_is s.own R W (lift_waiting w.others) Q [] (pair w.last.term taken) B taken rest is_abs refl) refl
+
+          -- by the comparison
+          pub waiting_settles : {w₁ w₂ : List ℕ} {a c : ℕ} (u : Puts 0xfe (cond b x.term m.work) m.work w₁ (cond b v.place v.at + 1) (cond b v.place v.at + 1 + k) v.shift v.cut (f.len - v.depth) f.end a)
+              → Puts 0xff (cond s.in_term x.term w₁) w₁ w₂ (s.from + 1) (s.from + 1 + n) s.shift s.cut 0 a c
+              → (d : Result ℕ Halt) {left right : List ℕ} → Compares x.file w₂ s.next f a c (compared_says d) left right
+              → Becomes x (entry_arrays m w₂ f.len (a + 1) (s.origin + 1) c) f s left right (settled_of s (past_of s n (s.cut + 1) (s.top - 1) (s.top - 1) (s.size - (1 + k)) v.scope s.next s.comparisons) v.place c d)
+              (states_of (state_of s.own R W Q B)) (finish (rest_of s.own s.place R W Q B) p)
+          waiting_settles u t (Ok next) r = waiting_becomes u t r refl
+          waiting_settles u t (Err h) r = waiting_stops u t r h refl

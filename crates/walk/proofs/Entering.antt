@@ -1,38 +1,35 @@
 -- An abstractor entered, as a whole: what its functions are asked, and what they return.
 -- Assumes nothing.
-use Prim.Native.Nat.{ℕ, zero, suc, ◌+◌, ◌-◌, ◌*◌, ◌≤◌, ◌<◌, max}
+use Prim.Native.Nat.{ℕ, suc, ◌+◌, ◌-◌, ◌*◌, ◌≤◌, ◌<◌, max}
 use mathlib.Core.Path.{◌≡◌, refl, ap, sym, ◌∙◌}
 use mathlib.Core.Bool.{Bool, true, false, cond}
 use mathlib.Core.Logic.{◌⊎◌, inl, inr}
 use mathlib.Core.List.{List}
 use native.Mathlib.Omega.{arith}
-use borrow.Author.Tests.{eq-eqb, ne_eqb}
 use lib.ListN.{length, get_or, length-set}
 use Rattle.std.specs.Prelude.{Some}
 use Rattle.calculus.specs.Terms.{Term, size}
 use Rattle.calculus.specs.Frames.{Frame}
-use Rattle.calculus.specs.Walks.{states_of}
 use Rattle.code.specs.Limits.{longest_state, most_abstractors}
 use Rattle.code.proofs.Parts.{stands_start}
 use Rattle.frames.specs.Stored.{Agree}
 use Rattle.frames.specs.declared.FrameRecord.{FrameRecord}
 use Rattle.frames.proofs.Entries.{agree_refl, agree_part, agree_set}
-use Rattle.compare.specs.Answers.{Compared}
-use Rattle.compare.specs.Compares.{Comparing, Compares}
+use Rattle.compare.specs.Compares.{Comparing}
 use Rattle.texts.proofs.Origins.{origin_inside}
-use Rattle.verdict.specs.Verdict.{Progress, Run, finish}
+use Rattle.verdict.specs.Verdict.{Progress, Run}
 use Rattle.waiting.specs.Waiting.{Waiting, slot_of}
 use Rattle.waiting.specs.Writing.{PutAsked, Puts}
 use Rattle.waiting.specs.declared.Slot.{Slot}
 use Rattle.waiting.proofs.Texts.{positive}
 use Rattle.waiting.proofs.Queues.{seen}
-use Rattle.walk.specs.State.{Text, Arrays, state_of, rest_of, StateAt}
-use Rattle.walk.specs.Clauses.{answering, past_of, completed_of, settled_of, Becomes, comes_now, comes_compared, Keeps, Onward, AbstractorAt, SizesKnown, DepthsKnown, Wagons}
+use Rattle.walk.specs.State.{Text, Arrays, StateAt}
+use Rattle.walk.specs.Clauses.{past_of, Becomes, comes_now, comes_compared, Keeps, Onward, AbstractorAt, SizesKnown, DepthsKnown, Wagons}
 use Rattle.walk.specs.declared.WalkState.{WalkState}
 use Rattle.walk.specs.declared.Turned.{Turned}
 use Rattle.walk.specs.declared.Turned.TheVariants.{State, Compare}
 use Rattle.walk.proofs.States.{no_confusion, entry_arrays, Room, room, origin_bound}
-use Rattle.walk.proofs.Enter.{Taken, two_abs, origins_abs, fewer_entries, past_bounds, further, domain_writable, domain_written, alone_room, alone_becomes, last_size, applied_asked, applied_past, domain_asked, pair_below, pair_end, comparing, last_copied, taken_copied, copied_size, copied_becomes, last_waiting, taken_waiting, one_waits, waiting_size_lem, waiting_stops, waiting_becomes}
+use Rattle.walk.proofs.Enter.{Taken, two_abs, origins_abs, fewer_entries, past_bounds, further, domain_writable, domain_written, alone_room, alone_becomes, last_size, applied_asked, applied_past, domain_asked, pair_below, pair_end, comparing, last_copied, taken_copied, copied_size, copied_becomes, last_waiting, taken_waiting, one_waits, waiting_size_lem, waiting_settles}
 
 settled_to : {x : Text} {m : Arrays} {f : FrameRecord} {s : WalkState} {a b : List ℕ} {r r' : Turned} {n : ℕ} {y : Run} → r ≡ r' → Becomes x m f s a b r' n y → Becomes x m f s a b r n y
 settled_to e h = rw e h
@@ -170,12 +167,6 @@ module _ {x : Text} {m : Arrays} {f : FrameRecord} {s : WalkState} {n : ℕ} (g 
             abbrev Next : WalkState
             Next = past_of s n (s.cut + 1) (s.top - 1) (s.top - 1) (s.size - (1 + k)) v.scope s.next s.comparisons
 
-            abbrev Goes_on : Compared → Turned
-            Goes_on e = State (completed_of Next e.next) (Some c)
-
-            abbrev Stops : Compared → Turned
-            Stops e = answering e.number v.place e.first e.second e.third s
-
             -- the comparison is due, and then the state that follows
             pub waiting_wagons : (l r : List ℕ) → Wagons x m (entry_arrays m w₂ f.len (a + 1) (s.origin + 1) (f.end + (1 + k) + (1 + n))) f s l r (Compare Next v.place a c)
             waiting_wagons l r =
@@ -183,15 +174,8 @@ module _ {x : Text} {m : Arrays} {f : FrameRecord} {s : WalkState} {n : ℕ} (g 
                 ends_at (omega (arith, (pair_ends o known h u t).0)) (record {
                   keeps = pair_kept o known h u t;
                   onward = record { end_grows = (pair_ends o known h u t).1; len_grows = omega arith; same_bottom = refl; further = further here (has_room here) g.high g.no_app (size_here here) };
-                  all = λ R W Q B p z. comes_compared (pair_comparing o known h u t) (λ e l r d. settled z e l r d e.number refl);
+                  all = λ R W Q B p z. comes_compared (pair_comparing o known h u t) (λ e l r d. waiting_settles z (has_room z) g.high g.no_app (size_here z) y ne q (λ j. omega (arith, i j)) (last_known (waiting_last b (λ j. omega (arith, i j)) z) known h) u t e d);
                 })
               where
                 ends_at : {i e : ℕ} {l r : List ℕ} {y : Turned} → i ≡ e → Wagons x m (entry_arrays m w₂ f.len (a + 1) (s.origin + 1) i) f s l r y → Wagons x m (entry_arrays m w₂ f.len (a + 1) (s.origin + 1) e) f s l r y
                 ends_at e o = rw (← e) o
-
-                settled : {R : Frame} {W Q : List Waiting} {B : Term} {p : Progress} (z : StateAt x m f s R W Q B p) (e : Compared) (l r : List ℕ) → Compares x.file w₂ s.next f a c e l r → (j : ℕ) → e.number ≡ j
-                    → Becomes x (entry_arrays m w₂ f.len (a + 1) (s.origin + 1) c) f s l r (settled_of s Next v.place c e) (states_of (state_of s.own R W Q B)) (finish (rest_of s.own s.place R W Q B) p)
-                settled z e l r d zero j = settled_to (ap (λ k. cond k (Goes_on e) (Stops e)) (eq-eqb e.number 0 j))
-                    (waiting_becomes z (has_room z) g.high g.no_app (size_here z) y ne q (λ j. omega (arith, i j)) (last_known (waiting_last b (λ j. omega (arith, i j)) z) known h) u t d j)
-                settled z e l r d (suc k) j = settled_to (ap (λ k. cond k (Goes_on e) (Stops e)) (ne_eqb e.number 0 (λ o. omega arith)))
-                    (waiting_stops z (has_room z) g.high g.no_app (size_here z) y ne q (λ j. omega (arith, i j)) (last_known (waiting_last b (λ j. omega (arith, i j)) z) known h) u t d (λ o. omega arith))

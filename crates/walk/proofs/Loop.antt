@@ -6,10 +6,8 @@ use mathlib.Core.Bool.{Bool, true, false, cond}
 use mathlib.Core.List.{List, []}
 use native.Mathlib.Omega.{arith}
 use native.Mathlib.Numerals.{add-one}
-use borrow.Author.Tests.{eq-eqb, ne_eqb}
-use lib.Dec.{eqb}
 use lib.ListN.{length, get_or}
-use Rattle.std.specs.Prelude.{Option, Some}
+use Rattle.std.specs.Prelude.{Option, Result, Ok, Err}
 use Rattle.calculus.specs.Terms.{Term, app, abs, lift, Closed, closed_app, closed_abs}
 use Rattle.calculus.specs.Frames.{Frame}
 use Rattle.calculus.specs.Walks.{states_of}
@@ -21,19 +19,20 @@ use Rattle.frames.specs.Stored.{pushed}
 use Rattle.frames.specs.declared.FrameRecord.{FrameRecord}
 use Rattle.frames.proofs.Entries.{agree_part, agree_trans}
 use Rattle.frames.proofs.Laws.{stored_agree}
-use Rattle.compare.specs.Answers.{Compared}
+use Rattle.compare.specs.Answers.{compared_says}
+use Rattle.compare.specs.declared.Ground.{Ground as Halt}
 use Rattle.compare.specs.Compares.{Comparing, Compares}
-use Rattle.compare.proofs.Grounds.{ground_number}
 use Rattle.texts.proofs.Origins.{origin_own}
 use Rattle.verdict.specs.Bounds.{state_fits, waiting_size, waiting_scope}
-use Rattle.verdict.specs.Verdict.{Ground, Progress, Run, and_then, turned, finish}
+use Rattle.verdict.specs.Verdict.{Progress, Run, and_then, turned, finish}
 use Rattle.waiting.specs.Waiting.{Waiting, terms_of, low_of, queue_none}
 use Rattle.waiting.proofs.Texts.{text_app, text_abs}
 use Rattle.waiting.proofs.Queues.{queue_base, queue_keep, low_same, descends, kept_through}
 use Rattle.walk.specs.State.{Text, Arrays, Reached, state_of, rest_of, agenda_of, OwnText, StateAt, Stated}
-use Rattle.walk.specs.Clauses.{answering, completed_of, inner_of, checked_of, with_entry, Halts, halts_waiting, halts_outgrown, halts_compared, Says, says_passed, says_stopped, says_never, says_full, Becomes, becomes_answer, becomes_state, becomes_inner, Keeps, Onward, Comes, comes_now, comes_compared, settled_of, Turns, Settles, InnerAt, Checks}
+use Rattle.walk.specs.Clauses.{stopped_by, completed_of, inner_of, checked_of, with_entry, Says, says_passed, says_stopped, says_never, says_full, Becomes, becomes_answer, becomes_state, becomes_inner, Keeps, Onward, Comes, comes_now, comes_compared, settled_of, Turns, Settles, InnerAt, Checks}
 use Rattle.walk.specs.declared.WalkState.{WalkState}
-use Rattle.walk.specs.declared.Walked.{Walked}
+use Rattle.walk.specs.declared.Walked.{Walked as Passed}
+use Rattle.walk.specs.declared.Stop.{Stop}
 use Rattle.walk.specs.declared.Turned.{Turned}
 use Rattle.walk.specs.declared.Turned.TheVariants.{Answer, State, Inner, Compare}
 use Rattle.walk.proofs.Rules.{run_inner_app, run_inner_abs}
@@ -208,15 +207,14 @@ going_start g = record {
   all = λ R W Q B p z. record { frame = R; ww = W; qq = Q; body = B; progress = p; at = z; same = refl };
 }
 
-says_at : {file : List ℕ} {long : ℕ} {a b : List ℕ} {r : Walked} {y z : Run} → y ≡ z → Says file long a b r z → Says file long a b r y
+says_at : {file : List ℕ} {long : ℕ} {a b : List ℕ} {r : Result Passed Stop} {y z : Run} → y ≡ z → Says file long a b r z → Says file long a b r y
 says_at e h = rw e h
 
-then_not : {file : List ℕ} {long : ℕ} {a b : List ℕ} {r : Walked} {y : Run} (h : Progress → Run) → (r.number ≡ 0 → ⊥) → Says file long a b r y → Says file long a b r (and_then y h)
+then_not : {file : List ℕ} {long : ℕ} {a b : List ℕ} {r : Stop} {y : Run} (h : Progress → Run) → Says file long a b (Err r) y → Says file long a b (Err r) (and_then y h)
 unfolding and_then
-then_not h o (says_passed a b) = absurd (o a)
-then_not h o (says_stopped a b) = says_stopped a b
-then_not h o (says_never a) = says_never a
-then_not h o (says_full a b) = says_full a b
+then_not h (says_stopped a b) = says_stopped a b
+then_not h (says_never a) = says_never a
+then_not h (says_full a) = says_full a
 
 -- what is kept by one after the other
 keeps_both : {m m' m'' : Arrays} {len len' end end' bottom bottom' : ℕ} → len ≤ len' → end ≤ end' → bottom ≤ bottom' → low_of m'.list bottom' ≤ low_of m'.list bottom → Keeps m m' len end bottom → Keeps m' m'' len' end' bottom' → Keeps m m'' len end bottom
@@ -233,13 +231,8 @@ keeps_both {m} {m'} {bottom = bottom} i j k l a b = record {
   origins_below = agree_trans a.origins_below (agree_part b.origins_below (omega arith) i);
 }
 
-says_long : {file : List ℕ} {long long' : ℕ} {a b : List ℕ} {r : Walked} {y : Run} → long' ≡ long → Says file long a b r y → Says file long' a b r y
+says_long : {file : List ℕ} {long long' : ℕ} {a b : List ℕ} {r : Result Passed Stop} {y : Run} → long' ≡ long → Says file long a b r y → Says file long' a b r y
 says_long e h = rw e h
-
-stopped_number : {r : Walked} {a b : List ℕ} {g : Ground} → Halts r a b g → r.number ≡ 0 → ⊥
-stopped_number (halts_waiting a b c d e) h = omega arith
-stopped_number (halts_outgrown a b c d e) h = omega arith
-stopped_number (halts_compared a b c d e f) h = (ground_number a).1 (sym b ∙ h)
 
 module _ {x : Text} {m₀ : Arrays} {f₀ : FrameRecord} {s₀ : WalkState} {m : Arrays} {f : FrameRecord} {s : WalkState} (g : Going x m₀ f₀ s₀ m f s) where
   first : Now x m f s (finish (agenda_of s₀.checked s₀.own s₀.place g.start.frame g.start.ww g.start.qq g.start.body) g.start.progress)
@@ -256,7 +249,7 @@ module _ {x : Text} {m₀ : Arrays} {f₀ : FrameRecord} {s₀ : WalkState} {m :
     becomes R W Q B p z = let n = g.all R W Q B p z in (_, _, t.all n.frame n.ww n.qq n.body n.progress n.at, n.same)
 
   -- an answer
-  pub going_done : {m' : Arrays} {a b : List ℕ} {out : Walked} → Settles x m m' f s a b (Answer out) → Checks x m₀ m' f₀ s₀ a b out
+  pub going_done : {m' : Arrays} {a b : List ℕ} {out : Result Passed Stop} → Settles x m m' f s a b (Answer out) → Checks x m₀ m' f₀ s₀ a b out
   going_done {m'} {a} {b} {out} t = record { keeps = kept t; all = λ R W Q B p z. let n = becomes t R W Q B p z in says_at n.3 (says_long (sym g.keeps.list_long ∙ sym t.keeps.list_long) (go n.2)) }
     where
       go : {n : ℕ} {y : Run} → Becomes x m' f s a b (Answer out) n y → Says x.file (length m'.list) a b out y
@@ -326,7 +319,7 @@ module _ {x : Text} {m₀ : Arrays} {f₀ : FrameRecord} {s₀ : WalkState} {m :
     pub inner_due : InnerAt x m' f s
     inner_due = let d = first_due in record { stated = record { frame = d.frame; ww = d.ww; qq = d.qq; body = d.body; progress = d.progress; at = d.due.at }; is_own = d.due.is_own; high = d.due.high }
 
-    module _ {m'' : Arrays} {c d : List ℕ} {q : Walked} (k : Checks x m' m'' f (inner_of s) c d q) where
+    module _ {m'' : Arrays} {c d : List ℕ} {q : Result Passed Stop} (k : Checks x m' m'' f (inner_of s) c d q) where
       lower : low_of m'.list s.top ≤ low_of m'.list s₀.bottom
       lower =
           let z = first_due.due.at in
@@ -345,55 +338,49 @@ module _ {x : Text} {m₀ : Arrays} {f₀ : FrameRecord} {s₀ : WalkState} {m :
       dues : (R : Frame) (W Q : List Waiting) (B : Term) (p : Progress) → StateAt x m₀ f₀ s₀ R W Q B p → SomeDue (finish (agenda_of s₀.checked s₀.own s₀.place R W Q B) p)
       dues R W Q B p z = let n = becomes t R W Q B p z in due_of n.3 n.2
 
-      pub inner_stops : (q.number ≡ 0 → ⊥) → Checks x m₀ m'' f₀ s₀ c d q
-      inner_stops o = record { keeps = kept_inside; all = λ R W Q B p z. let i = inner_says (dues R W Q B p z) in says_at i.2 (says_long (sym (kept t).list_long) (then_not _ o i.1)) }
+    pub inner_stops : {m'' : Arrays} {c d : List ℕ} {r : Stop} → Checks x m' m'' f (inner_of s) c d (Err r) → Checks x m₀ m'' f₀ s₀ c d (Err r)
+    inner_stops k = record { keeps = kept_inside k; all = λ R W Q B p z. let i = inner_says k (dues k R W Q B p z) in says_at i.2 (says_long (sym (kept t).list_long) (then_not _ i.1)) }
 
-      module _ (o : q.number ≡ 0) where
-        resumed : {v : Run} → SomeDue v → Now x m'' f (checked_of s q.next q.comparisons) v
-        unfolding and_then agenda_of
-        resumed u = let i = inner_says u in go i.1 i.2
-          where
-            go : {y v : Run} → Says x.file (length m'.list) c d q y → v ≡ and_then y (finish (rest_of s.own s.place u.frame u.ww u.qq u.body)) → Now x m'' f (checked_of s q.next q.comparisons) v
-            go (says_passed {q = w} i j) l = record { frame = u.frame; ww = u.ww; qq = u.qq; body = u.body; progress = w; at = checked_at u.due.at u.due.is_own u.due.high u.due.fits k.keeps j; same = l }
-            go (says_stopped i j) l = absurd (stopped_number i o)
-            go (says_never i) l = absurd (omega arith)
-            go (says_full i j) l = absurd (omega arith)
+    module _ {m'' : Arrays} {c d : List ℕ} {q : Passed} (k : Checks x m' m'' f (inner_of s) c d (Ok q)) where
+      resumed : {v : Run} → SomeDue v → Now x m'' f (checked_of s q.next q.comparisons) v
+      unfolding and_then agenda_of
+      resumed u = let i = inner_says k u in go i.1 i.2
+        where
+          go : {y v : Run} → Says x.file (length m'.list) c d (Ok q) y → v ≡ and_then y (finish (rest_of s.own s.place u.frame u.ww u.qq u.body)) → Now x m'' f (checked_of s q.next q.comparisons) v
+          go (says_passed {q = w} j) l = record { frame = u.frame; ww = u.ww; qq = u.qq; body = u.body; progress = w; at = checked_at u.due.at u.due.is_own u.due.high u.due.fits k.keeps j; same = l }
 
-        pub going_resumed : Going x m₀ f₀ s₀ m'' f (checked_of s q.next q.comparisons)
-        going_resumed = record {
-          start = g.start;
-          keeps = kept_inside;
-          end_grown = g.end_grown;
-          len_grown = g.len_grown;
-          same_bottom = g.same_bottom;
-          further = g.further;
-          all = λ R W Q B p z. resumed (dues R W Q B p z);
-        }
+      pub going_resumed : Going x m₀ f₀ s₀ m'' f (checked_of s q.next q.comparisons)
+      going_resumed = record {
+        start = g.start;
+        keeps = kept_inside k;
+        end_grown = g.end_grown;
+        len_grown = g.len_grown;
+        same_bottom = g.same_bottom;
+        further = g.further;
+        all = λ R W Q B p z. resumed (dues k R W Q B p z);
+      }
 
-        pub resumed_falls : falling x m'' f (checked_of s q.next q.comparisons) < falling x m f s
-        unfolding and_then agenda_of
-        resumed_falls = go (t.all first.frame first.ww first.qq first.body first.progress first.at) (falling_is first.at)
-          where
-            smaller : {R : Frame} {W Q : List Waiting} {B : Term} {p : Progress} {y : Run} → Says x.file (length m'.list) c d q y → StateAt x m' f s R W Q B p → s.own ≡ true → 0xfe ≤ get_or x.term s.from 0 → state_fits (state_of s.own R W Q B) ≡ true
-                → falling x m'' f (checked_of s q.next q.comparisons) ≡ states_of (state_of s.own R W Q B) + states_of (state_of s.own R W Q B)
-            smaller (says_passed i j) z l h u = falling_is (checked_at z l h u k.keeps j)
-            smaller (says_stopped i j) z l h u = absurd (stopped_number i o)
-            smaller (says_never i) z l h u = absurd (omega arith)
-            smaller (says_full i j) z l h u = absurd (omega arith)
+      pub resumed_falls : falling x m'' f (checked_of s q.next q.comparisons) < falling x m f s
+      unfolding and_then agenda_of
+      resumed_falls = go (t.all first.frame first.ww first.qq first.body first.progress first.at) (falling_is first.at)
+        where
+          smaller : {R : Frame} {W Q : List Waiting} {B : Term} {p : Progress} {y : Run} → Says x.file (length m'.list) c d (Ok q) y → StateAt x m' f s R W Q B p → s.own ≡ true → 0xfe ≤ get_or x.term s.from 0 → state_fits (state_of s.own R W Q B) ≡ true
+              → falling x m'' f (checked_of s q.next q.comparisons) ≡ states_of (state_of s.own R W Q B) + states_of (state_of s.own R W Q B)
+          smaller (says_passed j) z l h u = falling_is (checked_at z l h u k.keeps j)
 
-            go : {n : ℕ} {y : Run} → Becomes x m' f s a b Inner n y → falling x m f s ≡ cond s.checked (n + n) (suc (n + n)) → falling x m'' f (checked_of s q.next q.comparisons) < falling x m f s
-            go {n} (becomes_inner {R = R} {p = p} z l h u v w e) g =
-                let t = inside z l u v in
-                let s₁ = smaller (k.all R [] [] t.inner (turned 1 p) t.at) z l u v in
-                let s₂ : falling x m f s ≡ suc (n + n) = g ∙ ap (λ b. cond b (n + n) (suc (n + n))) h in
-                omega (arith, s₁, s₂, w)
+          go : {n : ℕ} {y : Run} → Becomes x m' f s a b Inner n y → falling x m f s ≡ cond s.checked (n + n) (suc (n + n)) → falling x m'' f (checked_of s q.next q.comparisons) < falling x m f s
+          go {n} (becomes_inner {R = R} {p = p} z l h u v w e) g =
+              let t = inside z l u v in
+              let s₁ = smaller (k.all R [] [] t.inner (turned 1 p) t.at) z l u v in
+              let s₂ : falling x m f s ≡ suc (n + n) = g ∙ ap (λ b. cond b (n + n) (suc (n + n))) h in
+              omega (arith, s₁, s₂, w)
 
 -- ---- A turn with its comparison.
 module _ {x : Text} {m m' : Arrays} {f : FrameRecord} {s : WalkState} {a b : List ℕ} where
   settles_by : {r : Turned} → ((n : ℕ) (y : Run) → Comes x m' f s a b r n y → Becomes x m' f s a b r n y) → Turns x m m' f s a b r → Settles x m m' f s a b r
   settles_by h t = record { keeps = t.keeps; onward = t.onward; all = λ R W Q B p z. h _ _ (t.all R W Q B p z) }
 
-  pub settles_answer : {out : Walked} → Turns x m m' f s a b (Answer out) → Settles x m m' f s a b (Answer out)
+  pub settles_answer : {out : Result Passed Stop} → Turns x m m' f s a b (Answer out) → Settles x m m' f s a b (Answer out)
   settles_answer {out} = settles_by go
     where
       go : (n : ℕ) (y : Run) → Comes x m' f s a b (Answer out) n y → Becomes x m' f s a b (Answer out) n y
@@ -419,10 +406,10 @@ module _ {x : Text} {m m' : Arrays} {f : FrameRecord} {s : WalkState} {a b : Lis
       go (comes_now i) = elim i [ ]
       go (comes_compared i j) = i
 
-  settles_compared : Stated x m f s → {c : Compared} {l u : List ℕ} → Compares x.file m'.work s.next f k e c l u → Settles x m m' f s l u (settled_of s t place e c)
-  settles_compared g {c} {l} {u} q = record {
+  settles_compared : Stated x m f s → (c : Result ℕ Halt) {l u : List ℕ} → Compares x.file m'.work s.next f k e (compared_says c) l u → Settles x m m' f s l u (settled_of s t place e c)
+  settles_compared g c {l} {u} q = record {
     keeps = h.keeps;
-    onward = on (eqb c.number 0) h.onward;
+    onward = on c h.onward;
     all = λ R W Q B p z. go (h.all R W Q B p z);
   }
     where
@@ -430,9 +417,9 @@ module _ {x : Text} {m m' : Arrays} {f : FrameRecord} {s : WalkState} {a b : Lis
       go (comes_now i) = elim i [ ]
       go (comes_compared i j) = j c l u q
 
-      on : (b : Bool) → Onward f s (Compare t place k e) → Onward f s (cond b (State (completed_of t c.next) (Some e)) (answering c.number place c.first c.second c.third s))
-      on true o = record { end_grows = o.end_grows; len_grows = o.len_grows; same_bottom = o.same_bottom; further = o.further }
-      on false o = record { end_grows = omega arith; len_grows = omega arith; same_bottom = refl; further = omega arith }
+      on : (c : Result ℕ Halt) → Onward f s (Compare t place k e) → Onward f s (settled_of s t place e c)
+      on (Ok next) o = record { end_grows = o.end_grows; len_grows = o.len_grows; same_bottom = o.same_bottom; further = o.further }
+      on (Err halt) o = record { end_grows = omega arith; len_grows = omega arith; same_bottom = refl; further = omega arith }
 
 -- ---- The frame after a turn.
 module _ {x : Text} {m₀ : Arrays} {f₀ : FrameRecord} {s₀ : WalkState} {m : Arrays} {f : FrameRecord} {s : WalkState} (g : Going x m₀ f₀ s₀ m f s) {m' : Arrays} where
@@ -476,28 +463,19 @@ inside_falls {x} {s₀ = s₀} {s = s} g = falls_on x.term s₀.place s.place g.
 
 -- ---- After a comparison.
 module _ {x : Text} {m₀ : Arrays} {f₀ : FrameRecord} {s₀ : WalkState} {m : Arrays} {f : FrameRecord} {s : WalkState} (g : Going x m₀ f₀ s₀ m f s) {m' : Arrays} {a b : List ℕ} {t : WalkState} {place k e : ℕ} (h : Turns x m m' f s a b (Compare t place k e))
-    {c : Compared} {l u : List ℕ} (q : Compares x.file m'.work s.next f k e c l u) where
-  made : Settles x m m' f s l u (settled_of s t place e c)
-  made = settles_compared h (now_stated g) q
+    {l u : List ℕ} where
+  made : (c : Result ℕ Halt) → Compares x.file m'.work s.next f k e (compared_says c) l u → Settles x m m' f s l u (settled_of s t place e c)
+  made c q = settles_compared h (now_stated g) c q
 
-  settles_to : {d r : Turned} → d ≡ r → Settles x m m' f s l u d → Settles x m m' f s l u r
-  settles_to i j = rw (← i) j
+  pub compared_stops : {halt : Halt} → Compares x.file m'.work s.next f k e (compared_says (Err halt)) l u → Checks x m₀ m' f₀ s₀ l u (Err (stopped_by halt place s))
+  compared_stops {halt} q = going_done g (made (Err halt) q)
 
-  abbrev by_number : Bool → Turned
-  by_number b = cond b (State (completed_of t c.next) (Some e)) (answering c.number place c.first c.second c.third s)
+  module _ {next : ℕ} (q : Compares x.file m'.work s.next f k e (compared_says (Ok next)) l u) where
+    pub compared_goes : Going x m₀ f₀ s₀ m' (pushed f e) (completed_of t next)
+    compared_goes = going_on g (made (Ok next) q)
 
-  pub compared_stops : (c.number ≡ 0 → ⊥) → Checks x m₀ m' f₀ s₀ l u (record { number = c.number; place = place; comparisons = s.comparisons; next = s.next; first = c.first; second = c.second; third = c.third })
-  compared_stops i = going_done g (settles_to (ap by_number (ne_eqb c.number 0 i)) made)
-
-  module _ (i : c.number ≡ 0) where
-    on_made : Settles x m m' f s l u (State (completed_of t c.next) (Some e))
-    on_made = settles_to (ap by_number (eq-eqb c.number 0 i)) made
-
-    pub compared_goes : Going x m₀ f₀ s₀ m' (pushed f e) (completed_of t c.next)
-    compared_goes = going_on g on_made
-
-    pub compared_falls : falling x m' (pushed f e) (completed_of t c.next) < falling x m f s
-    compared_falls = going_falls g on_made
+    pub compared_falls : falling x m' (pushed f e) (completed_of t next) < falling x m f s
+    compared_falls = going_falls g (made (Ok next) q)
 
 pub compared_few : {x : Text} {m₀ : Arrays} {f₀ : FrameRecord} {s₀ : WalkState} {m : Arrays} {f : FrameRecord} {s : WalkState} {n : ℕ} → Going x m₀ f₀ s₀ m f s → s.comparisons ≡ n + 1 → n < 65536
 compared_few g e = let r = (now_stated g).at.reached in omega (arith, r.few, reached_inside r)

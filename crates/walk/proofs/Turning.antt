@@ -7,7 +7,7 @@ use mathlib.Core.Option.{some}
 use mathlib.Core.List.{List, [], ◌∷◌}
 use native.Mathlib.Omega.{arith}
 use lib.ListN.{length, get_or}
-use Rattle.std.specs.Prelude.{None}
+use Rattle.std.specs.Prelude.{None, Err}
 use Rattle.calculus.specs.Terms.{Term, tau, var, app, abs, size, lift, lift_index, Closed, closed_var}
 use Rattle.calculus.specs.Frames.{Entry, domain, Frame, entry_at}
 use Rattle.calculus.specs.Walks.{states_of}
@@ -19,6 +19,7 @@ use Rattle.code.proofs.Parts.{stands_start}
 use Rattle.frames.specs.declared.FrameRecord.{FrameRecord}
 use Rattle.frames.proofs.Entries.{agree_refl, agree_part}
 use Rattle.frames.proofs.Laws.{stored_depth}
+use Rattle.compare.specs.declared.Ground.TheVariants.{Outgrown}
 use Rattle.texts.proofs.Origins.{origin_size, origin_scope, origin_inside}
 use Rattle.verdict.specs.Bounds.{state_fits}
 use Rattle.verdict.specs.Verdict.{something_waits, not_reached, Progress, Run, passed, stopped, turned, finish}
@@ -26,10 +27,10 @@ use Rattle.waiting.specs.Waiting.{Waiting, places, slot_of}
 use Rattle.waiting.proofs.Texts.{positive, text_tau, text_var, text_app, text_abs, text_in}
 use Rattle.waiting.proofs.Queues.{queue_empty, queue_base, queue_count, queue_last, descends}
 use Rattle.walk.specs.State.{Text, Arrays, state_of, rest_of, agenda_of, StateAt, Stated}
-use Rattle.walk.specs.Clauses.{within, answering, met_of, typed_of, halts_waiting, halts_outgrown, says_passed, says_stopped, says_never, says_full, Becomes, becomes_answer, becomes_state, becomes_inner, Comes, comes_now, Keeps, Onward, AbstractorAt, SizesKnown, Wagons, Turns, Known, TestAs, test_made, test_is, DueAs, due_first, not_due, TauTurn, tau_never, tau_passes, tau_waits, WaitReady, WaitTurn, wait_full, wait_goes}
+use Rattle.walk.specs.Clauses.{within, stopped_by, met_of, typed_of, halts_waiting, halts_outgrown, says_passed, says_stopped, says_never, says_full, Becomes, becomes_answer, becomes_state, becomes_inner, Comes, comes_now, Keeps, Onward, AbstractorAt, SizesKnown, Wagons, Turns, Known, TestAs, test_made, test_is, DueAs, due_first, not_due, TauTurn, tau_never, tau_passes, tau_waits, WaitReady, WaitTurn, wait_full, wait_goes}
 use Rattle.walk.specs.declared.WalkState.{WalkState}
 use Rattle.walk.specs.declared.Turned.{Turned}
-use Rattle.walk.specs.declared.Turned.TheVariants.{State, Inner}
+use Rattle.walk.specs.declared.Turned.TheVariants.{Answer, State, Inner}
 use Rattle.walk.proofs.Rules.{run_outgrown, run_tau_passes, run_tau_waits, run_tau_never, run_met, run_typed, run_copied_app, run_copied_abs}
 use Rattle.walk.proofs.Measures.{fewer_met, fewer_typed}
 use Rattle.walk.proofs.States.{no_confusion, sound_closed, Meant, meant, reached_turned, body_size, body_scope_lem, origin_bound, state_fits_lem, room}
@@ -95,7 +96,7 @@ module _ {x : Text} {m : Arrays} {f : FrameRecord} {s : WalkState} {sizes scopes
     fitted h e R W Q B p z = tested h z ∙ e
 
     turns_outgrown : {ok : Bool} → ok ≡ within (f.end + (s.size + n)) (f.len + max s.scope y) → ok ≡ false → s.checked ≡ false → Stated x m f s → (a b : List ℕ)
-        → Turns x m m f s a b (answering 11 s.place 0 0 0 s)
+        → Turns x m m f s a b (Answer (Err (stopped_by Outgrown s.place s)))
     unfolding agenda_of turned
     turns_outgrown h e c g a b = record {
       keeps = keeps_all g;
@@ -112,7 +113,7 @@ module _ {x : Text} {m : Arrays} {f : FrameRecord} {s : WalkState} {sizes scopes
   fitted_test h (test_made e) = fitted_checked e
   fitted_test h (test_is c e) = fitted refl refl e h
 
-  pub outgrown_test : {ok : Bool} → ok ≡ false → TestAs sizes scopes f.len f.end s ok → Stated x m f s → (a b : List ℕ) → Turns x m m f s a b (answering 11 s.place 0 0 0 s)
+  pub outgrown_test : {ok : Bool} → ok ≡ false → TestAs sizes scopes f.len f.end s ok → Stated x m f s → (a b : List ℕ) → Turns x m m f s a b (Answer (Err (stopped_by Outgrown s.place s)))
   outgrown_test h (test_made e) g a b = no_confusion (sym h)
   outgrown_test h (test_is c e) g a b = turns_outgrown refl refl e h c g a b
 
@@ -167,7 +168,7 @@ module _ {x : Text} {m : Arrays} {f : FrameRecord} {s : WalkState} (g : Stated x
     says_answer {R} {W} {Q} {B} {p} z fits a b (tau_passes i j) =
         let t : Q ≡ [] = queue_empty z.held.copies (omega (arith, queue_base z.held.copies)) in
         let w : W ≡ [] = queue_empty z.held.waits (omega (arith, queue_base z.held.copies, queue_base z.held.waits)) in
-        becomes_at (passes s.own (is_tau z) w t fits) (becomes_answer (says_passed refl (reached_turned 1 z.reached)))
+        becomes_at (passes s.own (is_tau z) w t fits) (becomes_answer (says_passed (reached_turned 1 z.reached)))
       where
         passes : (b : Bool) {W Q : List Waiting} {B : Term} → B ≡ tau → W ≡ [] → Q ≡ [] → state_fits (state_of b R W Q B) ≡ true → finish (agenda_of false b s.place R W Q B) p ≡ passed (turned 1 p)
         passes b c d e f = rw (c, d, e) (run_tau_passes b s.place R p (rw (c, d, e) at f))
@@ -330,7 +331,7 @@ module _ {x : Text} {m : Arrays} {f : FrameRecord} {s : WalkState} (g : Stated x
     waited a b (wait_full i e l) = record {
       keeps = all_same i e (keeps_all g);
       onward = record { end_grows = omega arith; len_grows = omega arith; same_bottom = refl; further = omega arith };
-      all = λ R W Q B p z. comes_now (becomes_answer (says_full refl (omega (arith, ap length e, full_short z h (room z (fit R W Q B p z)) l))));
+      all = λ R W Q B p z. comes_now (becomes_answer (says_full (omega (arith, ap length e, full_short z h (room z (fit R W Q B p z)) l))));
     }
       where
         all_same : {w q : List ℕ} → w ≡ m.work → q ≡ m.list → Keeps m m f.len f.end s.bottom → Keeps m (aside_arrays m w q) f.len f.end s.bottom

@@ -1,19 +1,20 @@
 -- The contracts of the walk's functions.
 -- Assumes nothing.
-use Rattle.std.specs.Prelude.{ℕ, suc, ◌+◌, ◌-◌, ◌*◌, ◌≤◌, ◌<◌, max, ◌≡◌, Bool, true, false, cond, List, map, leb, eqb, length, get_or, Option, Some, None}
+use Rattle.std.specs.Prelude.{ℕ, suc, ◌+◌, ◌-◌, ◌*◌, ◌≤◌, ◌<◌, max, ◌≡◌, Bool, true, false, cond, List, map, leb, length, get_or, Option, Some, None, Result, Ok, Err}
 use Rattle.calculus.specs.Terms.{Term, size, Closed}
 use Rattle.calculus.specs.Frames.{Frame}
 use Rattle.calculus.specs.Walks.{states_of}
 use Rattle.code.specs.Limits.{longest_file, longest_term, longest_state, most_abstractors}
-use Rattle.code.specs.Refusals.{accepted, still_waiting, outgrown, never}
+use Rattle.code.specs.Refusals.{accepted, still_waiting, outgrown}
 use Rattle.code.specs.Code.{encode}
 use Rattle.code.specs.Scope.{scope}
 use Rattle.fields.specs.Fields.{GroupAt, Groups}
 use Rattle.frames.specs.Stored.{Agree, pushed}
 use Rattle.frames.specs.declared.FrameRecord.{FrameRecord}
 use Rattle.compare.specs.Compares.{GroundIs, Comparing, Compares}
-use Rattle.compare.specs.Answers.{Compared, ground_says}
-use Rattle.compare.specs.declared.Ground.{Ground as Stop}
+use Rattle.compare.specs.Answers.{Compared, ground_says, compared_says}
+use Rattle.compare.specs.declared.Ground.{Ground as Halt}
+use Rattle.compare.specs.declared.Ground.TheVariants.{StillWaiting, NotReached}
 use Rattle.texts.specs.Texts.{Sized, Depths, Origin}
 use Rattle.verdict.specs.Bounds.{state_fits}
 use Rattle.verdict.specs.Verdict.{Ground, something_waits, state_outgrown, not_reached, place_of, Progress, Run, passed, stopped, finish, check_term}
@@ -21,7 +22,10 @@ use Rattle.waiting.specs.Waiting.{Waiting, slot_of, low_of, Noted}
 use Rattle.waiting.specs.Writing.{Moved}
 use Rattle.waiting.specs.declared.Slot.{Slot}
 use Rattle.walk.specs.State.{Text, Arrays, Reached, state_of, rest_of, agenda_of, StateAt, Stated}
-use Rattle.walk.specs.declared.Walked.{Walked}
+use Rattle.walk.specs.declared.Walked.{Walked as Passed}
+use Rattle.walk.specs.declared.Stopped.{Stopped as Halted}
+use Rattle.walk.specs.declared.Stop.{Stop}
+use Rattle.walk.specs.declared.Stop.TheVariants.{ListFull, Stopped}
 use Rattle.walk.specs.declared.WalkState.{WalkState}
 use Rattle.walk.specs.declared.Turned.{Turned}
 use Rattle.walk.specs.declared.Turned.TheVariants.{Answer, State, Inner, Compare}
@@ -32,17 +36,29 @@ use Rattle.walk.specs.declared.Rule.TheVariants.{InsideFirst, One, Three, Four, 
 abbrev pub within : ℕ → ℕ → Bool
 within n m = cond (leb n longest_state) (leb m most_abstractors) false
 
--- The list has no room.
-abbrev pub list_full : ℕ
-list_full = 254
-
+-- All that can wait.
 abbrev pub longest_list : ℕ
 longest_list = 36864
 
 -- WHAT A FUNCTION RETURNS
--- the answer of a walk that ends in the state s
-abbrev pub answering : (number place first second third : ℕ) → WalkState → Turned
-answering number place first second third s = Answer (record { number = number; place = place; comparisons = s.comparisons; next = s.next; first = first; second = second; third = third })
+-- What a walk answers, in numbers: 0 or the number and the place of what stops it, the comparisons completed, where the next group is, and
+-- the ground. For 8 this is how many wait; for 10 and 12 it is what `compare` says; else 0 0 0.
+pub record Walked : Type 0 where
+  pub number : ℕ
+  pub place : ℕ
+  pub comparisons : ℕ
+  pub next : ℕ
+  pub first : ℕ
+  pub second : ℕ
+  pub third : ℕ
+
+abbrev pub walked_says : Result Passed Halted → Walked
+walked_says (Ok w) = record { number = accepted; place = 0; comparisons = w.comparisons; next = w.next; first = 0; second = 0; third = 0 }
+walked_says (Err h) = let c = ground_says h.by in record { number = c.number; place = h.place; comparisons = h.comparisons; next = 0; first = c.first; second = c.second; third = c.third }
+
+-- What stops the walk in the state s.
+abbrev pub stopped_by : Halt → ℕ → WalkState → Stop
+stopped_by g place s = Stopped (record { by = g; place = place; comparisons = s.comparisons })
 
 -- The state past the first wagon, whose term has n bytes.
 abbrev pub past_of : WalkState → (n cut middle top size scope next comparisons : ℕ) → WalkState
@@ -104,17 +120,13 @@ pub data Halts (r : Walked) (a b : List ℕ) : Ground → Type 0 where
   halts_compared : {c : Compared} {g : Ground} → GroundIs c a b g → r.number ≡ c.number → r.place ≡ place_of g → r.first ≡ c.first → r.second ≡ c.second → r.third ≡ c.third → Halts r a b g
 
 -- What an answer says of a run; the list has `long` numbers.
-pub data Says (file : List ℕ) (long : ℕ) (a b : List ℕ) (r : Walked) : Run → Type 0 where
-  says_passed : {q : Progress} → r.number ≡ accepted → Reached file r.next r.comparisons q → Says file long a b r (passed q)
-  says_stopped : {g : Ground} {q : Progress} → Halts r a b g → r.comparisons ≡ q.comparisons → Says file long a b r (stopped g q)
-  says_never : {i : ℕ} {q : Progress} → r.number ≡ never → Says file long a b r (stopped (not_reached i) q)
-  says_full : {x : Run} → r.number ≡ list_full → long < longest_list → Says file long a b r x
+pub data Says (file : List ℕ) (long : ℕ) (a b : List ℕ) : Result Passed Stop → Run → Type 0 where
+  says_passed : {w : Passed} {q : Progress} → Reached file w.next w.comparisons q → Says file long a b (Ok w) (passed q)
+  says_stopped : {h : Halted} {g : Ground} {q : Progress} → Halts (walked_says (Err h)) a b g → h.comparisons ≡ q.comparisons → Says file long a b (Err (Stopped h)) (stopped g q)
+  says_never : {h : Halted} {i : ℕ} {q : Progress} → h.by ≡ NotReached → Says file long a b (Err (Stopped h)) (stopped (not_reached i) q)
+  says_full : {x : Run} → long < longest_list → Says file long a b (Err ListFull) x
 
 -- TURNS
--- The answer where a comparison placed there stops the walk.
-abbrev pub stopped_by : Stop → ℕ → WalkState → Walked
-stopped_by g place s = let c = ground_says g in record { number = c.number; place = place; comparisons = s.comparisons; next = s.next; first = c.first; second = c.second; third = c.third }
-
 -- The frame, once it has one more entry, whose bytes end there, or none.
 abbrev pub with_entry : Option ℕ → FrameRecord → FrameRecord
 with_entry None f = f
@@ -138,12 +150,13 @@ abbrev pub completed_of : WalkState → ℕ → WalkState
 completed_of s next = record s { checked = false; next = next; comparisons = s.comparisons + 1 }
 
 -- What the turn of the state s comes to by its comparison, placed at `place`: the state t with an entry whose bytes end at e, or an answer.
-abbrev pub settled_of : (s t : WalkState) (place e : ℕ) → Compared → Turned
-settled_of s t place e c = cond (eqb c.number accepted) (State (completed_of t c.next) (Some e)) (answering c.number place c.first c.second c.third s)
+abbrev pub settled_of : (s t : WalkState) (place e : ℕ) → Result ℕ Halt → Turned
+settled_of s t place e (Ok next) = State (completed_of t next) (Some e)
+settled_of s t place e (Err g) = Answer (Err (stopped_by g place s))
 
 -- A turn ends the run x, or goes on from a state whose run it is and which leads to fewer states than n, or asks for what stands inside.
 pub data Becomes (x : Text) (m : Arrays) (f : FrameRecord) (s : WalkState) (a b : List ℕ) : Turned → ℕ → Run → Type 0 where
-  becomes_answer : {r : Walked} {n : ℕ} {z : Run} → Says x.file (length m.list) a b r z → Becomes x m f s a b (Answer r) n z
+  becomes_answer : {r : Result Passed Stop} {n : ℕ} {z : Run} → Says x.file (length m.list) a b r z → Becomes x m f s a b (Answer r) n z
   becomes_state : {t : WalkState} {e : Option ℕ} {n : ℕ} {z : Run} {R : Frame} {W Q : List Waiting} {B : Term} {p : Progress} → StateAt x m (with_entry e f) t R W Q B p → t.checked ≡ false
       → suc (states_of (state_of t.own R W Q B)) ≤ n → z ≡ finish (agenda_of false t.own t.place R W Q B) p → Becomes x m f s a b (State t e) n z
   becomes_inner : {n : ℕ} {z : Run} {R : Frame} {W Q : List Waiting} {B : Term} {p : Progress} → StateAt x m f s R W Q B p → s.own ≡ true → s.checked ≡ false → 0xfe ≤ get_or x.term s.from 0
@@ -153,7 +166,7 @@ pub data Becomes (x : Text) (m : Arrays) (f : FrameRecord) (s : WalkState) (a b 
 pub data Comes (x : Text) (m : Arrays) (f : FrameRecord) (s : WalkState) (a b : List ℕ) : Turned → ℕ → Run → Type 0 where
   comes_now : {r : Turned} {n : ℕ} {z : Run} → Becomes x m f s a b r n z → Comes x m f s a b r n z
   comes_compared : {t : WalkState} {place k e n : ℕ} {z : Run} → Comparing x.file m.work s.next f k e
-      → ((c : Compared) (l u : List ℕ) → Compares x.file m.work s.next f k e c l u → Becomes x m f s l u (settled_of s t place e c) n z) → Comes x m f s a b (Compare t place k e) n z
+      → ((c : Result ℕ Halt) (l u : List ℕ) → Compares x.file m.work s.next f k e (compared_says c) l u → Becomes x m f s l u (settled_of s t place e c) n z) → Comes x m f s a b (Compare t place k e) n z
 
 -- What is as it was: a frame of len entries whose bytes end at `end`, what is below the bottom of the list, and its bytes at the end of the
 -- work array where no frame was written.
@@ -244,9 +257,9 @@ pub data RuleAt (s : WalkState) (b : ℕ) : Rule → Type 0 where
 
 -- (i) and (vi).
 pub data TauTurn (q : List ℕ) (s : WalkState) : Turned → Type 0 where
-  tau_never : s.middle < s.top → TauTurn q s (answering never s.place 0 0 0 s)
-  tau_passes : s.top ≤ s.middle → s.bottom ≡ s.top → TauTurn q s (answering accepted 0 0 0 0 s)
-  tau_waits : s.top ≤ s.middle → (s.bottom ≡ s.top → ⊥) → TauTurn q s (answering still_waiting (slot_of q (s.top - 1)).place (s.top - s.bottom) 0 0 s)
+  tau_never : s.middle < s.top → TauTurn q s (Answer (Err (stopped_by NotReached s.place s)))
+  tau_passes : s.top ≤ s.middle → s.bottom ≡ s.top → TauTurn q s (Answer (Ok (record { comparisons = s.comparisons; next = s.next })))
+  tau_waits : s.top ≤ s.middle → (s.bottom ≡ s.top → ⊥) → TauTurn q s (Answer (Err (stopped_by (StillWaiting (s.top - s.bottom)) (slot_of q (s.top - 1)).place s)))
 
 -- ⟨K⟩, whose K has n bytes and the scope y, waits: (iii) and (ix).
 abbrev pub slot_for : (len at : ℕ) → WalkState → Slot
@@ -272,12 +285,12 @@ pub data PutAside (t w w' q : List ℕ) (s : WalkState) (n at : ℕ) : Type 0 wh
   aside_own : s.own ≡ true → at + (1 + n) ≡ low_of q s.top → Moved t w w' s.place (1 + n) at → PutAside t w w' q s n at
 
 pub data WaitTurn (t w w' q q' : List ℕ) (len : ℕ) (s : WalkState) (n y : ℕ) : Turned → Type 0 where
-  wait_full : w' ≡ w → q' ≡ q → length q < 6 * s.top + 6 → WaitTurn t w w' q q' len s n y (answering list_full 0 0 0 0 s)
+  wait_full : w' ≡ w → q' ≡ q → length q < 6 * s.top + 6 → WaitTurn t w w' q q' len s n y (Answer (Err ListFull))
   wait_goes : {at : ℕ} → 6 * s.top + 6 ≤ length q → PutAside t w w' q s n at → Noted q q' s.top (slot_for len at s)
       → WaitTurn t w w' q q' len s n y (State (past_of s n s.cut (cond s.own (s.top + 1) s.middle) (s.top + 1) (s.size + (1 + n)) (max s.scope y) s.next s.comparisons) None)
 
 -- THE CHECK OF A TERM, from a state of its own text on
-pub record Checks (x : Text) (m m' : Arrays) (f : FrameRecord) (s : WalkState) (a b : List ℕ) (r : Walked) : Type 0 where
+pub record Checks (x : Text) (m m' : Arrays) (f : FrameRecord) (s : WalkState) (a b : List ℕ) (r : Result Passed Stop) : Type 0 where
   pub keeps : Keeps m m' f.len f.end s.bottom
   pub all : (R : Frame) (W Q : List Waiting) (B : Term) (p : Progress) → StateAt x m f s R W Q B p
       → Says x.file (length m.list) a b r (finish (agenda_of s.checked s.own s.place R W Q B) p)
@@ -314,6 +327,6 @@ pub record WalkAnswer (file t : List ℕ) (at : ℕ) (a b : List ℕ) (r : Walke
   pub all : (T : Term) (gs : List GroupAt) → encode T ≡ t → Closed 0 T → scope T ≤ most_abstractors → Groups file at gs → Answers file a b r (check_term T (map (λ g. g.group) gs))
 
 -- The same, or the list, of `long` numbers, was full.
-pub data WholeAnswer (file t : List ℕ) (at long : ℕ) (a b : List ℕ) (r : Walked) : Type 0 where
-  whole_full : r.number ≡ list_full → long < longest_list → WholeAnswer file t at long a b r
-  whole_answer : WalkAnswer file t at a b r → WholeAnswer file t at long a b r
+pub data WholeAnswer (file t : List ℕ) (at long : ℕ) (a b : List ℕ) : Option (Result Passed Halted) → Type 0 where
+  whole_full : long < longest_list → WholeAnswer file t at long a b None
+  whole_answer : {r : Result Passed Halted} → WalkAnswer file t at a b (walked_says r) → WholeAnswer file t at long a b (Some r)

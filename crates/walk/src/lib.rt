@@ -10,20 +10,14 @@ ghost use Rattle.frames.specs.Stored.{record_of, pushed};
 ghost use Rattle.compare.specs.Sides.{Buffers};
 ghost use Rattle.waiting.specs.Writing.{PutAsked, Puts};
 ghost use Rattle.walk.specs.State.{text_of, arrays_of, Stated};
-ghost use Rattle.walk.specs.Clauses.{within, answering, stopped_by, completed_of, past_of, met_of, typed_of, start_of, inner_of, checked_of, TestAs, DueAs, RuleAt, TauTurn, WaitReady, PutAside, WaitTurn, SizesKnown, DepthsKnown, AbstractorAt, Wagons, Known, Turns, InnerAt, Checks, Walkable, longest_list, WholeAnswer, WalkAnswer};
+ghost use Rattle.walk.specs.Clauses.{within, stopped_by, completed_of, past_of, met_of, typed_of, start_of, inner_of, checked_of, TestAs, DueAs, RuleAt, TauTurn, WaitReady, PutAside, WaitTurn, SizesKnown, DepthsKnown, AbstractorAt, Wagons, Known, Turns, InnerAt, Checks, Walkable, longest_list, WholeAnswer, WalkAnswer, walked_says};
 
-use code::numbers::{
-    ACCEPTED, LONGEST_STATE, LONGEST_TERM, MOST_ABSTRACTORS, NEVER, OUTGROWN, STILL_WAITING,
-};
-use code::refusal::Condition;
+use code::numbers::{LONGEST_STATE, LONGEST_TERM, MOST_ABSTRACTORS};
 use compare::{Ground, compare};
 use frames::{FrameRecord, Starts, Work, empty_frame};
 use letters::Letters;
 use texts::measure;
 use waiting::{Slot, copy_from, low, put, slot_at, store_slot};
-
-// The answer where a lent list has no room for one more waiting applicator. No answer of a call is this one.
-pub const LIST_FULL: u32 = 254;
 
 // So many numbers are enough for all that can wait: six for each of 6,144. Where little is copied, a third is enough.
 pub const LONGEST_LIST: usize = 36864;
@@ -35,17 +29,26 @@ const SHORT_TERM: usize = 256;
 
 const SHORT_LIST: usize = 768;
 
-// What a walk answers: 0 or the number and the place of what stops it, the comparisons completed, where the next group is, and the
-// ground. For 8 this is how many wait; for 10 and 12 it is what `compare` says; else 0 0 0.
-#[derive(Clone, Copy)]
+// What a walk that passes answers: the comparisons completed, and where the next group is.
+#[derive(Clone, Copy, Debug, PartialEq, Eq)]
 pub struct Walked {
-    pub number: u32,
-    pub place: usize,
     pub comparisons: usize,
     pub next: usize,
-    pub first: usize,
-    pub second: usize,
-    pub third: usize,
+}
+
+// What stops a walk, and where; and the comparisons completed.
+#[derive(Clone, Copy, Debug, PartialEq, Eq)]
+pub struct Stopped {
+    pub by: Ground,
+    pub place: usize,
+    pub comparisons: usize,
+}
+
+// What ends a walk that does not pass; or a lent list has no room for one more waiting applicator.
+#[derive(Clone, Copy)]
+pub enum Stop {
+    ListFull,
+    Stopped(Stopped),
 }
 
 // The term's text, and what was measured of it: the size and the scope of the term that starts at each place, and how deep the place lies.
@@ -104,7 +107,7 @@ pub struct WalkState {
 // What a turn comes to.
 #[derive(Clone, Copy)]
 pub enum Turned {
-    Answer(Walked),
+    Answer(Result<Walked, Stop>),
     // another state; the bytes of one more entry, if the frame has one, end at `entered`
     State {
         state: WalkState,
@@ -139,41 +142,15 @@ pub enum Rule {
     Twelve,
 }
 
-fn answer(
-    number: u32,
-    place: usize,
-    first: usize,
-    second: usize,
-    third: usize,
-    s: WalkState,
-) -> Turned
-    ensures { result ≡ answering number place first second third s }
+// What stops the walk in the state s.
+fn stop_at(by: Ground, place: usize, s: WalkState) -> Stop
+    ensures { result ≡ stopped_by by place s }
 {
-    Turned::Answer(Walked {
-        number,
+    Stop::Stopped(Stopped {
+        by,
         place,
         comparisons: s.comparisons,
-        next: s.next,
-        first,
-        second,
-        third,
     })
-}
-
-// The answer where a comparison placed there stops the walk.
-fn stopped(ground: Ground, place: usize, s: WalkState) -> Walked
-    ensures { result ≡ stopped_by ground place s }
-{
-    let (first, second, third) = ground.numbers();
-    Walked {
-        number: u32::from(Condition::from(ground)),
-        place,
-        comparisons: s.comparisons,
-        next: s.next,
-        first,
-        second,
-        third,
-    }
 }
 
 // One more entry, whose bytes end at `end`.
@@ -319,13 +296,17 @@ fn at_tau(list: &[u16], s: WalkState) -> Turned
     ensures { TauTurn list.now s result }
 {
     if s.middle < s.top {
-        return answer(NEVER, s.place, 0, 0, 0, s);
+        return Turned::Answer(Err(stop_at(Ground::NotReached, s.place, s)));
     }
     if s.bottom == s.top {
-        return answer(ACCEPTED, 0, 0, 0, 0, s);
+        return Turned::Answer(Ok(Walked {
+            comparisons: s.comparisons,
+            next: s.next,
+        }));
     }
     let v = slot_at(list, s.top - 1);
-    answer(STILL_WAITING, v.place, s.top - s.bottom, 0, 0, s)
+    let waiting = s.top - s.bottom;
+    Turned::Answer(Err(stop_at(Ground::StillWaiting { waiting }, v.place, s)))
 }
 
 // Where the bytes of ⟨K⟩ stand in the work array while it waits: those of copied text where they stand, and those of the term's own text,
@@ -357,7 +338,7 @@ fn wait(
 {
     let top = s.top;
     if list.len() < 6 * top + 6 {
-        return answer(LIST_FULL, 0, 0, 0, 0, s);
+        return Turned::Answer(Err(Stop::ListFull));
     }
     let at = put_aside(t, work, list, s, n);
     let v = Slot {
@@ -631,7 +612,7 @@ fn turn(
     ensures { (file a b : List ℕ) → Stated (text_of file text.now.term.now) (arrays_of memory.old list.old) frame.now s → Turns (text_of file text.now.term.now) (arrays_of memory.old list.old) (arrays_of memory.new list.new) frame.now s a b result }
 {
     if !test(text, frame, s) {
-        return answer(OUTGROWN, s.place, 0, 0, 0, s);
+        return Turned::Answer(Err(stop_at(Ground::Outgrown, s.place, s)));
     }
     let b = symbol(text.term, &memory.work, s);
     let o = s.origin + 1;
@@ -678,7 +659,7 @@ fn term(
     top: usize,
     next: usize,
     comparisons: usize,
-) -> Walked
+) -> Result<Walked, Stop>
     requires { Stated (text_of file.now text.now.term.now) (arrays_of memory.old list.old) frame.now (start_of place top next comparisons) × Buffers left.old right.old }
     ensures { Checks (text_of file.now text.now.term.now) (arrays_of memory.old list.old) (arrays_of memory.new list.new) frame.now (start_of place top next comparisons) left.new right.new result × Buffers left.new right.new }
 {
@@ -702,12 +683,9 @@ fn term(
     };
     loop {
         match turn(text, memory, list, &f, z) {
-            Turned::Answer(walked) => return walked,
+            Turned::Answer(answer) => return answer,
             Turned::Inner => {
-                let q = inside(file, text, memory, list, left, right, &f, z);
-                if q.number != ACCEPTED {
-                    return q;
-                }
+                let q = inside(file, text, memory, list, left, right, &f, z)?;
                 z = checked(z, q.next, q.comparisons);
             }
             Turned::Compare {
@@ -721,7 +699,7 @@ fn term(
                         z = completed(state, next);
                         push_entry(&mut f, end);
                     }
-                    Err(ground) => return stopped(ground, place, z),
+                    Err(ground) => return Err(stop_at(ground, place, z)),
                 }
             }
             Turned::State { state, entered } => {
@@ -745,7 +723,7 @@ fn inside(
     right: &mut Letters,
     frame: &FrameRecord,
     s: WalkState,
-) -> Walked
+) -> Result<Walked, Stop>
     requires { InnerAt (text_of file.now text.now.term.now) (arrays_of memory.old list.old) frame.now s × Buffers left.old right.old }
     ensures { Checks (text_of file.now text.now.term.now) (arrays_of memory.old list.old) (arrays_of memory.new list.new) frame.now (inner_of s) left.new right.new result × Buffers left.new right.new }
 {
@@ -764,14 +742,14 @@ fn inside(
     )
 }
 
-// The whole term, of at most TERM bytes, with a list of LIST numbers.
+// The whole term, of at most TERM bytes, with a list of LIST numbers; or the list is full.
 fn whole<const TERM: usize, const LIST: usize>(
     file: &[u8],
     t: &[u8],
     at: usize,
     left: &mut Letters,
     right: &mut Letters,
-) -> Walked
+) -> Option<Result<Walked, Stopped>>
     requires { Walkable file.now t.now at × Buffers left.old right.old × (length t.now ≤ TERM) × (TERM ≤ longest_term) × (LIST ≤ longest_list) }
     ensures { WholeAnswer file.now t.now at LIST left.new right.new result × Buffers left.new right.new }
 {
@@ -793,7 +771,7 @@ fn whole<const TERM: usize, const LIST: usize>(
         depths: &depths[..],
     };
     let f = empty_frame();
-    term(
+    match term(
         file,
         &text,
         &mut memory,
@@ -805,7 +783,11 @@ fn whole<const TERM: usize, const LIST: usize>(
         0,
         at,
         0,
-    )
+    ) {
+        Ok(walked) => Some(Ok(walked)),
+        Err(Stop::Stopped(stopped)) => Some(Err(stopped)),
+        Err(Stop::ListFull) => None,
+    }
 }
 
 // The check of the term t with the groups of the file that stand from `at` on. After it the two lent arrays hold the bodies of the
@@ -816,19 +798,17 @@ pub fn walk_term(
     at: usize,
     left: &mut Letters,
     right: &mut Letters,
-) -> Walked
+) -> Result<Walked, Stopped>
     requires { Walkable file.now t.now at × Buffers left.old right.old }
-    ensures { WalkAnswer file.now t.now at left.new right.new result × Buffers left.new right.new }
+    ensures { WalkAnswer file.now t.now at left.new right.new (walked_says result) × Buffers left.new right.new }
 {
-    if t.len() <= SHORT_TERM {
-        let r = whole::<SHORT_TERM, SHORT_LIST>(file, t, at, left, right);
-        if r.number != LIST_FULL {
-            return r;
-        }
+    if t.len() <= SHORT_TERM
+        && let Some(answer) = whole::<SHORT_TERM, SHORT_LIST>(file, t, at, left, right)
+    {
+        return answer;
     }
-    let q = whole::<LONGEST_TERM, USUAL_LIST>(file, t, at, left, right);
-    if q.number != LIST_FULL {
-        return q;
+    if let Some(answer) = whole::<LONGEST_TERM, USUAL_LIST>(file, t, at, left, right) {
+        return answer;
     }
-    whole::<LONGEST_TERM, LONGEST_LIST>(file, t, at, left, right)
+    whole::<LONGEST_TERM, LONGEST_LIST>(file, t, at, left, right).unwrap()
 }

@@ -1,19 +1,23 @@
 -- `checker::walk_file` meets its contract.
 -- Assumes nothing.
+use mathlib.Core.Path.{refl}
+use Rattle.std.proofs.lemmas.Result.{err_from_is_err_and}
+use Rattle.compare.proofs.Grounds.{ground_stops}
 use Rattle.checker.proofs.Checking.{ends_inside, walking, walk_stopped, groups_left_lem, all_taken}
 use Rattle.checker.proofs.walk_file.Goals as goal
 
 pub term_part-part-requires : goal.term_part-part-requires
 term_part-part-requires c = ends_inside _ (λ i. (c.type_inv.s i).fits) c.requires.0
 
-pub walk_term-walked-requires : goal.walk_term-walked-requires
-walk_term-walked-requires c = (rw c.term_part-part.ensures (walking _ (λ i. (c.type_inv.s i).fits) c.requires.0), c.requires.1)
+pub walk_term-requires : goal.walk_term-requires
+walk_term-requires c = (rw c.term_part-part.ensures (walking _ (λ i. (c.type_inv.s i).fits) c.requires.0), c.requires.1)
 
-pub returns-then-walked-ne-ACCEPTED : goal.returns-then-walked-ne-ACCEPTED
-returns-then-walked-ne-ACCEPTED c = (walk_stopped _ (λ i. (c.type_inv.s i).fits) (rw c.term_part-part.ensures at c.walk_term-walked.ensures.0) c.if-walked-ne-ACCEPTED.true, c.walk_term-walked.ensures.1)
+pub returns-in_err-walked : goal.returns-in_err-walked
+returns-in_err-walked c = let e = err_from_is_err_and c.from_residual.result c.from_residual.ensures.1 in
+    rw (e.1, e.2) (walk_stopped _ (λ i. (c.type_inv.s i).fits) (rw c.term_part-part.ensures at c.in_err-walked.ensures.0) (ground_stops _), c.in_err-walked.ensures.1)
 
-pub returns-then-next-s : goal.returns-then-next-s
-returns-then-next-s c = (groups_left_lem _ (λ i. (c.type_inv.s i).fits) (rw c.term_part-part.ensures at c.walk_term-walked.ensures.0) c.if-walked-ne-ACCEPTED.false c.if-next-s.true, c.walk_term-walked.ensures.1)
+pub returns-then-walked-s : goal.returns-then-walked-s
+returns-then-walked-s c = (groups_left_lem _ (λ i. (c.type_inv.s i).fits) (rw c.term_part-part.ensures at c.in_ok-walked.ensures.0) refl c.if-walked-s.true, c.in_ok-walked.ensures.1)
 
 pub returns : goal.returns
-returns c = (all_taken _ (λ i. (c.type_inv.s i).fits) (rw c.term_part-part.ensures at c.walk_term-walked.ensures.0) c.if-walked-ne-ACCEPTED.false c.if-next-s.false, c.walk_term-walked.ensures.1)
+returns c = (all_taken _ (λ i. (c.type_inv.s i).fits) (rw c.term_part-part.ensures at c.in_ok-walked.ensures.0) refl c.if-walked-s.false, c.in_ok-walked.ensures.1)

@@ -14,8 +14,8 @@ decreases-inside l = degree_and_size l.text.now.term.now (l.s.place + 1) + degre
 abbrev pub decreases-term : goal.decreases-term
 decreases-term l = degree_and_size l.text.now.term.now l.place + degree_and_size l.text.now.term.now l.place
 
-abbrev pub invariant-term-loop-walked : goal.invariant-term-loop-walked
-invariant-term-loop-walked l = Going (text_of l.file l.text.term.now) (arrays_of l.initial.memory l.initial.list) l.initial.f l.initial.z (arrays_of l.memory l.list) l.f l.z × Buffers l.left l.right
+abbrev pub invariant-term-loop-answer : goal.invariant-term-loop-answer
+invariant-term-loop-answer l = Going (text_of l.file l.text.term.now) (arrays_of l.initial.memory l.initial.list) l.initial.f l.initial.z (arrays_of l.memory l.list) l.f l.z × Buffers l.left l.right
 
-abbrev pub decreases-term-loop-walked : goal.decreases-term-loop-walked
-decreases-term-loop-walked l = falling (text_of l.file l.text.term.now) (arrays_of l.memory l.list) l.f l.z
+abbrev pub decreases-term-loop-answer : goal.decreases-term-loop-answer
+decreases-term-loop-answer l = falling (text_of l.file l.text.term.now) (arrays_of l.memory l.list) l.f l.z

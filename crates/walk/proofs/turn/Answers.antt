@@ -11,7 +11,7 @@ pub test-requires : goal.test-requires
 test-requires c = let b = fits_bounds c.requires.1 in let i = origin_in c.args.text.now.known c.requires.1 in (b.0, b.1, b.2, b.3, i.0, i.1)
 
 pub returns-then-not-test : goal.returns-then-not-test
-returns-then-not-test c = λ file a b g. rw c.answer.ensures (outgrown_test c.args.text.now.known c.if-not-test.true c.test.ensures g _ _)
+returns-then-not-test c = λ file a b g. rw c.stop_at.ensures (outgrown_test c.args.text.now.known c.if-not-test.true c.test.ensures g _ _)
 
 pub symbol-b-requires : goal.symbol-b-requires
 symbol-b-requires c = symbol_in c.requires.1

@@ -7,7 +7,7 @@ use Rattle.walk.proofs.wait.Goals.{then-s, else-s}
 use Rattle.walk.proofs.wait.Goals as goal
 
 pub returns-then-list-top : goal.returns-then-list-top
-returns-then-list-top c = rw c.answer.ensures (wait_full refl refl c.if-list-top.true)
+returns-then-list-top c = wait_full refl refl c.if-list-top.true
 
 pub put_aside-at-requires : goal.put_aside-at-requires
 put_aside-at-requires c = (_, c.requires)

@@ -4,7 +4,7 @@ use Prim.Native.Nat.{ℕ}
 use mathlib.Core.Path.{refl}
 use native.Mathlib.Omega.{arith}
 use Rattle.std.proofs.lemmas.List.{length-replicate}
-use Rattle.walk.proofs.Beginning.{whole_term, begun, answered}
+use Rattle.walk.proofs.Beginning.{whole_term, begun, answered_passed, answered_stopped, answered_full}
 use Rattle.walk.proofs.whole.Goals as goal
 
 pub whole_as_slice-term : goal.whole_as_slice-term
@@ -22,5 +22,11 @@ invariant_of-text g c = record {
 pub term-requires : goal.term-requires
 term-requires g c = (begun c.requires.0 c.empty_frame-f.ensures refl refl refl, record { left_long = c.measure.ensures.1; right_long = c.requires.1.right_long })
 
-pub returns : goal.returns
-returns g c = (rw (length-replicate {A = ℕ} g.row.LIST 0) at (answered c.requires.0 c.empty_frame-f.ensures refl refl refl c.term.ensures.0), c.term.ensures.1)
+pub returns-in-Ok : goal.returns-in-Ok
+returns-in-Ok g c = (rw (length-replicate {A = ℕ} g.row.LIST 0) at (answered_passed c.requires.0 c.empty_frame-f.ensures refl refl refl c.in-Ok.ensures.0), c.in-Ok.ensures.1)
+
+pub returns-in-Err-Stopped : goal.returns-in-Err-Stopped
+returns-in-Err-Stopped g c = let k = rw c.in-Err-Stopped.field-0-is at c.in-Err-Stopped.ensures in (rw (length-replicate {A = ℕ} g.row.LIST 0) at (answered_stopped c.requires.0 c.empty_frame-f.ensures refl refl refl k.0), k.1)
+
+pub returns-in-Err-ListFull : goal.returns-in-Err-ListFull
+returns-in-Err-ListFull g c = let k = rw c.in-Err-ListFull.field-0-is at c.in-Err-ListFull.ensures in (rw (length-replicate {A = ℕ} g.row.LIST 0) at (answered_full c.requires.0 c.empty_frame-f.ensures refl refl refl k.0), k.1)
