@@ -6,11 +6,11 @@
 ghost use Rattle.std.specs.Prelude.{◌≡◌, true, false, cond, List, ℕ, ◌+◌, ◌-◌, ◌*◌, ◌≤◌, ◌<◌, max, length, get_or, set};
 ghost use Rattle.calculus.specs.Terms.{lift_index};
 ghost use Rattle.code.specs.Limits.{longest_term, longest_state, most_abstractors};
-ghost use Rattle.frames.specs.Stored.{record_of, pushed};
+ghost use Rattle.frames.specs.Stored.{pushed};
 ghost use Rattle.compare.specs.Sides.{Buffers};
 ghost use Rattle.waiting.specs.Writing.{PutAsked, Puts};
 ghost use Rattle.walk.specs.State.{text_of, arrays_of, Stated};
-ghost use Rattle.walk.specs.Clauses.{within, stopped_by, completed_of, past_of, met_of, typed_of, start_of, inner_of, checked_of, TestAs, DueAs, RuleAt, TauTurn, WaitReady, PutAside, WaitTurn, SizesKnown, DepthsKnown, AbstractorAt, Wagons, Known, Turns, InnerAt, Checks, Walkable, longest_list, WholeAnswer, WalkAnswer, walked_says};
+ghost use Rattle.walk.specs.Clauses.{within, stopped_by, completed_of, past_of, met_of, typed_of, start_of, inner_of, checked_of, TestAs, DueAs, RuleAt, TauTurn, WaitReady, PutAside, WaitTurn, DepthsKnown, AbstractorAt, Wagons, Known, Turns, InnerAt, Checks, Walkable, longest_list, WholeAnswer, WalkAnswer, walked_says};
 
 use code::numbers::{LONGEST_STATE, LONGEST_TERM, MOST_ABSTRACTORS};
 use compare::{Ground, compare};
@@ -168,10 +168,8 @@ fn fits(frame: &FrameRecord, s: WalkState, size: usize, scope: usize) -> bool
     requires { (s.size < 65536) × (s.scope < 65536) × (frame.now.len < 65536) × (frame.now.end < 65536) × (size < 65536) × (scope < 65536) }
     ensures { result ≡ within (frame.now.end + (s.size + size)) (frame.now.len + max s.scope scope) }
 {
-    if frame.end + (s.size + size) > LONGEST_STATE {
-        return false;
-    }
-    frame.len + s.scope.max(scope) <= MOST_ABSTRACTORS
+    frame.end + (s.size + size) <= LONGEST_STATE
+        && frame.len + s.scope.max(scope) <= MOST_ABSTRACTORS
 }
 
 // The test for 11. It was made already where what stands inside the first wagon has been checked.
