@@ -1,8 +1,7 @@
 -- The lines of the program `counts`, reading C1 among them, and a length over 7: number, accepted, refused 3 and refused 5.
 -- Assumes nothing.
 use Rattle.std.specs.Prelude.{ℕ, ◌≡◌}
-use Rattle.counting.specs.declared.CountAnswer.{CountAnswer}
-use Rattle.counting.specs.Counts.{count_answer}
+use Rattle.counting.specs.Counts.{CountAnswer, count_answer}
 
 abbrev pub line : ℕ → ℕ → ℕ → ℕ → CountAnswer
 line n a m u = record { number = n; accepted = a; malformed = m; unbound = u }

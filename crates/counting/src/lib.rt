@@ -4,12 +4,12 @@
 #![tactic(auto)]
 
 ghost use Rattle.std.specs.Prelude.{◌≡◌, ◌+◌, ◌^◌, ◌≤◌};
-ghost use Rattle.counting.specs.Counts.{longest_counted, count_answer};
+ghost use Rattle.counting.specs.Counts.{longest_counted, counts_say, count_answer};
 ghost use Rattle.counting.specs.Clauses.{greatest_index, terminals_in, terms_in};
 ghost use Rattle.counting.specs.Claims.{Listing, Counting};
 ghost use Rattle.counting.specs.Examples.{Examples};
 
-use code::numbers::{ACCEPTED, TOO_LONG_TO_COUNT};
+use code::refusal::Condition;
 
 // Condition 15: 'length over 7'.
 pub const LONGEST_COUNTED: usize = 7;
@@ -17,11 +17,10 @@ pub const LONGEST_COUNTED: usize = 7;
 // The greatest index of the one-byte code: in so many scopes every index may stand.
 const GREATEST_INDEX: u64 = 253;
 
-// The number (0, or 15 and 0 for the rest) and the counts: how many strings are accepted, refused with 3 (malformed: not exactly one
-// term) and refused with 5 (unbound: a term with an index beyond its scope).
-#[derive(Drop)]
-pub struct CountAnswer {
-    pub number: u32,
+// How many strings are accepted, refused with 3 (malformed: not exactly one term) and refused with 5 (unbound: a term with an index beyond
+// its scope).
+#[derive(Clone, Copy, Debug, PartialEq, Eq)]
+pub struct Counts {
     pub accepted: u64,
     pub malformed: u64,
     pub unbound: u64,
@@ -31,10 +30,7 @@ pub struct CountAnswer {
 fn terminals_in(d: u64) -> u64
     ensures { result ≡ terminals_in d }
 {
-    if d < GREATEST_INDEX {
-        return d + 1;
-    }
-    GREATEST_INDEX + 1
+    d.min(GREATEST_INDEX) + 1
 }
 
 // How many strings of length n are one term that may stand in d scopes: a terminal; or fe or ff, a first term, and a second in the
@@ -43,60 +39,39 @@ fn terms_in(n: usize, d: u64) -> u64
     requires { (n ≤ longest_counted) × (d + n ≤ greatest_index + longest_counted) }
     ensures { result ≡ terms_in n d }
 {
-    if n == 0 {
-        return 0;
+    match n {
+        0 => 0,
+        1 => terminals_in(d),
+        _ => {
+            let rest = n - 1;
+            let mut sum: u64 = 0;
+            for i in 1..rest {
+                let j = rest - i;
+                let first = terms_in(i, d);
+                let after_fe = terms_in(j, d);
+                let after_ff = terms_in(j, d + 1);
+                sum += first * (after_fe + after_ff);
+            }
+            sum
+        }
     }
-    if n == 1 {
-        return terminals_in(d);
-    }
-    let rest = n - 1;
-    let mut sum: u64 = 0;
-    let mut i: usize = 1;
-    while i < rest {
-        let j = rest - i;
-        let first = terms_in(i, d);
-        let after_fe = terms_in(j, d);
-        let after_ff = terms_in(j, d + 1);
-        sum += first * (after_fe + after_ff);
-        i += 1;
-    }
-    sum
-}
-
-// How many strings have length n.
-fn strings_of(n: usize) -> u64
-    requires { n ≤ longest_counted }
-    ensures { result ≡ 256 ^ n }
-{
-    let mut product: u64 = 1;
-    let mut i: usize = 0;
-    while i < n {
-        product *= 256;
-        i += 1;
-    }
-    product
 }
 
 // Counts the strings of a length.
-pub fn count_strings(length: usize) -> CountAnswer
-    ensures { result ≡ count_answer length }
+pub fn count_strings(length: usize) -> Result<Counts, Condition>
+    ensures { counts_say result ≡ count_answer length }
 {
     if length > LONGEST_COUNTED {
-        return CountAnswer {
-            number: TOO_LONG_TO_COUNT,
-            accepted: 0,
-            malformed: 0,
-            unbound: 0,
-        };
+        return Err(Condition::TooLongToCount);
     }
     let closed = terms_in(length, 0);
     let terms = terms_in(length, GREATEST_INDEX);
-    CountAnswer {
-        number: ACCEPTED,
+    let strings = 256u64.pow(length as u32);
+    Ok(Counts {
         accepted: closed,
-        malformed: strings_of(length) - terms,
+        malformed: strings - terms,
         unbound: terms - closed,
-    }
+    })
 }
 
 pub fn listing()

@@ -7,7 +7,7 @@ use Rattle.examine.specs.Inspect.{TermAnswer}
 use Rattle.files.specs.File.{FileAnswer}
 use Rattle.files.specs.Check.{CheckAnswer}
 use Rattle.calls.specs.Answers.{Written, nothing, answer}
-use Rattle.counting.specs.declared.CountAnswer.{CountAnswer}
+use Rattle.counting.specs.Counts.{CountAnswer}
 use Rattle.sets.specs.declared.SetAnswer.{SetAnswer}
 use Rattle.explaining.specs.Explain.{Explanation}
 

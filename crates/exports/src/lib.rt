@@ -89,12 +89,10 @@ pub extern "C" fn bijterne_print_term(s: &[u8], out: &mut [u8], answer: &mut [u6
 pub extern "C" fn bijterne_count_strings(length: usize, answer: &mut [u64; 4])
     ensures { answer.new ≡ count_numbers (count_answer length) }
 {
-    let a = counting::count_strings(length);
-    let number = a.number;
-    let accepted = a.accepted;
-    let malformed = a.malformed;
-    let unbound = a.unbound;
-    *answer = [number as u64, accepted, malformed, unbound];
+    *answer = match counting::count_strings(length) {
+        Ok(counts) => [0, counts.accepted, counts.malformed, counts.unbound],
+        Err(condition) => [u64::from(u32::from(condition)), 0, 0, 0],
+    };
 }
 
 // Number, place, comparisons completed, degree.

@@ -12,7 +12,7 @@ ghost use Rattle.program.specs.Clauses.{answer_room, Added};
 
 use arrayvec::ArrayString;
 use code::refusal::Refusal;
-use counting::LONGEST_COUNTED;
+use counting::{Counts, LONGEST_COUNTED};
 use explanation::Text;
 use printing::LONGEST_PAGE;
 use std::io::{Read, Write};
@@ -172,18 +172,20 @@ fn print_term<R: Read, W: Write>(input: &mut R, output: &mut W) -> Result<(), Fa
 fn count_strings<W: Write>(output: &mut W) -> Result<(), Failure> {
     let mut lines: ArrayString<LINES_ROOM> = ArrayString::new();
     for n in 0..=LONGEST_COUNTED {
-        push_counts(&mut lines, n);
+        match counting::count_strings(n) {
+            Ok(counts) => push_counts(&mut lines, n, &counts),
+            Err(condition) => return Err(Failure::Refused(u32::from(condition), 0)),
+        }
     }
     put(output, lines.as_bytes())
 }
 
-fn push_counts<const N: usize>(lines: &mut ArrayString<N>, n: usize)
+fn push_counts<const N: usize>(lines: &mut ArrayString<N>, n: usize, counts: &Counts)
     requires { array_string_len lines.old + answer_room ≤ N }
     ensures { Added answer_room lines.old lines.new }
 {
-    let a = counting::count_strings(n);
     push_number(lines, n, ' ');
-    push_number(lines, a.accepted, ' ');
-    push_number(lines, a.malformed, ' ');
-    push_number(lines, a.unbound, '\n');
+    push_number(lines, counts.accepted, ' ');
+    push_number(lines, counts.malformed, ' ');
+    push_number(lines, counts.unbound, '\n');
 }
