@@ -71,7 +71,11 @@ fn count_strings(rt: &impl Print, length: usize) -> io::Result<()> {
     print!(rt; "count strings: ")?;
     match counting::count_strings(length) {
         Ok(counts) => {
-            let (accepted, malformed, unbound) = (counts.accepted, counts.malformed, counts.unbound);
+            let (accepted, malformed, unbound) = (
+                counts.accepted,
+                counts.malformed,
+                counts.unbound,
+            );
             println!(rt; "0 {accepted} {malformed} {unbound}")
         }
         Err(condition) => println!(rt; "{} 0 0 0", u32::from(condition)),
