@@ -174,7 +174,7 @@ fn count_strings<W: Write>(output: &mut W) -> Result<(), Failure> {
     for n in 0..=LONGEST_COUNTED {
         match counting::count_strings(n) {
             Ok(counts) => push_counts(&mut lines, n, &counts),
-            Err(condition) => return Err(Failure::Refused(u32::from(condition), 0)),
+            Err(condition) => return Err(Failure::Refused(condition.at(0))),
         }
     }
     put(output, lines.as_bytes())
