@@ -6,8 +6,8 @@ use mathlib.Core.List.{List, ◌++◌, append_assoc, append-nil}
 use native.Mathlib.Omega.{arith}
 use native.Mathlib.Nat.{zero-add}
 use borrow.Rule.Slice.PartMut.{put_mid}
-use lib.ListN.{length, get_or, set, take, drop}
-use lib.Seq.{paste, sets, sets-eq, length-sets}
+use lib.ListN.{length, get_or, set, take, drop, take-append-drop}
+use lib.Seq.{paste, sets, sets-eq, length-sets, drop-drop}
 use Rattle.std.proofs.lemmas.List.{drop_all}
 use Rattle.std.proofs.lemmas.List.Edits.{paste_more, paste_all}
 use Rattle.std.proofs.lemmas.Slice.{put_mid-paste}
@@ -33,3 +33,15 @@ storing_more d s i m l q r = rw (q, r) (ap (λ j. set (paste d 0 s i) j (get_or 
 
 pub storing_all : (d s : List ℕ) {e : List ℕ} (i : ℕ) → length d ≡ length s → i ≡ length s → e ≡ paste d 0 s i → e ≡ s
 storing_all d s i m l q = q ∙ paste_all d 0 s i l ∙ ap (s ++◌) (drop_all (0 + i) d (omega arith)) ∙ append-nil s
+
+-- ---- A part stored over itself changes nothing.
+sets_over : (s : List ℕ) (from to : ℕ) → from ≤ to → to ≤ length s → sets s from (part s from to) ≡ s
+sets_over s from to a b =
+    sets-eq (part s from to) s from (omega (arith, length_part s from to b))
+    ∙ ap (λ (r : List ℕ). take from s ++ part s from to ++ r) (ap (λ k. drop (from + k) s) (length_part s from to b) ∙ sym (drop-drop (to - from) from s))
+    ∙ append_assoc (take from s) (part s from to) (drop (to - from) (drop from s))
+    ∙ ap (λ (r : List ℕ). take from s ++ r) (take-append-drop (to - from) (drop from s))
+    ∙ take-append-drop from s
+
+pub stays : {s : List ℕ} {from to at : ℕ} → from ≤ to → to ≤ length s → at ≡ from → Copied s from to s s at
+stays {s} {from} {to} a b q = record { bytes = sym (ap (λ k. sets s k (part s from to)) q ∙ sets_over s from to a b); same_length = refl }

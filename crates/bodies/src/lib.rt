@@ -78,14 +78,14 @@ fn skip_high(s: &Letters, n: usize, i: usize, h: usize) -> usize
     requires { (n ≤ longest_term) × (i ≤ n) }
     ensures { Ending s.now result i h result × (result ≤ n) }
 {
-    let mut j = i;
-    while j + 4 <= n {
+    let fours = (n - i) / 4;
+    for k in 0..fours {
+        let j = i + 4 * k;
         if height_of(s[j].min(s[j + 1]).min(s[j + 2].min(s[j + 3]))) < h {
             return j;
         }
-        j += 4;
     }
-    j
+    i + 4 * fours
 }
 
 // The first place from i on, of n, whose letter is less high than h.
@@ -265,7 +265,10 @@ fn put(
     let v = s[p];
     let d = depth_of(v);
     let room = MOST_ABSTRACTORS - frame.len - d;
-    s.copy_within(p + 1..n, p + size);
+    // a letter in the variable's place moves nothing
+    if size > 1 {
+        s.copy_within(p + 1..n, p + size);
+    }
     if !write_source(s, work, x, d, height_of(v), room, p) {
         return Err(StepError::Outgrown);
     }

@@ -4,9 +4,6 @@ use native.Mathlib.Omega.{arith}
 use Rattle.bodies.proofs.Lifting.{deepening_next, deepest_is}
 use Rattle.bodies.proofs.deepest.Goals as goal
 
-pub loop-x-init : goal.loop-x-init
-loop-x-init c = record { passed = λ j x. absurd (omega arith); least = λ x f. omega arith }
-
 pub loop-x-preserved : goal.loop-x-preserved
 loop-x-preserved c = deepening_next c.loop-x.invariant c.max-most.ensures
 

@@ -8,9 +8,6 @@ use Rattle.bodies.proofs.lifted_letter.Goals as goal
 pub returns-then-symbol-ge1022 : goal.returns-then-symbol-ge1022
 returns-then-symbol-ge1022 c = lifted_kept _ _ _ _ _ c.requires (inl c.if-symbol-ge1022.true)
 
-pub overflow_add-result : goal.overflow_add-result
-overflow_add-result c = omega (arith, c.requires.index (omega arith))
-
 pub returns-then-symbol-x : goal.returns-then-symbol-x
 returns-then-symbol-x c = lifted_raised _ _ _ _ _ c.requires (omega arith) c.if-symbol-x.true
 

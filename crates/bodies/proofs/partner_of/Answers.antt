@@ -1,39 +1,15 @@
 -- `bodies::partner_of` meets its contract: what is found from i on is what is found from q on (`Searching` of Finding.antt).
 -- Assumes nothing.
-use mathlib.Core.Path.{refl, sym, ◌∙◌}
+use mathlib.Core.Path.{sym, ◌∙◌}
 use native.Mathlib.Omega.{arith}
 use Rattle.bodies.proofs.Finding.{search_end, search_outside, search_inside, search_abstractor, search_partner, search_applicator}
 use Rattle.bodies.proofs.partner_of.Goals as goal
 
-pub offset_bounds-s-q : goal.offset_bounds-s-q
-offset_bounds-s-q c = omega (arith, c.requires)
-
-pub bounds-s-q : goal.bounds-s-q
-bounds-s-q c = omega (arith, c.requires)
-
-pub loop-i-init : goal.loop-i-init
-loop-i-init c = record { here = c.height_of-h.ensures.0; left = omega arith; same = refl }
-
-pub offset_bounds-s-i : goal.offset_bounds-s-i
-offset_bounds-s-i c = omega (arith, c.requires, c.loop-i.invariant.left)
-
-pub bounds-s-i : goal.bounds-s-i
-bounds-s-i c = omega (arith, c.requires, c.loop-i.invariant.left)
-
 pub returns-then-g-h-2 : goal.returns-then-g-h-2
 returns-then-g-h-2 c = search_outside c.loop-i.invariant c.loop-i-test.true (omega (arith, c.height_of-g.ensures.0, c.if-g-h-2.true))
 
-pub overflow_add-result : goal.overflow_add-result
-overflow_add-result c = omega (arith, c.loop-i.invariant.left, c.requires)
-
 pub returns-then-unmatched-eq0 : goal.returns-then-unmatched-eq0
 returns-then-unmatched-eq0 c = search_partner c.loop-i.invariant c.loop-i-test.true (omega (arith, c.height_of-g.ensures.0, c.if-g-h.true, c.if-g-h-2.false)) (sym c.symbol_of.ensures.0 ∙ c.if-symbol_of-eq-APPLICATOR.true) c.if-unmatched-eq0.true
-
-pub overflow_sub-unmatched : goal.overflow_sub-unmatched
-overflow_sub-unmatched c = omega (arith, c.if-unmatched-eq0.false)
-
-pub overflow_add-unmatched : goal.overflow_add-unmatched
-overflow_add-unmatched c = omega (arith, c.loop-i.invariant.left, c.requires)
 
 pub loop-i-preserved-else-unmatched-eq0 : goal.loop-i-preserved-else-unmatched-eq0
 loop-i-preserved-else-unmatched-eq0 c = search_applicator c.loop-i.invariant c.loop-i-test.true (omega (arith, c.height_of-g.ensures.0, c.if-g-h.true, c.if-g-h-2.false)) (sym c.symbol_of.ensures.0 ∙ c.if-symbol_of-eq-APPLICATOR.true) c.if-unmatched-eq0.false

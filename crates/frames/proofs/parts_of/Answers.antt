@@ -4,23 +4,11 @@ use native.Mathlib.Omega.{arith}
 use Rattle.frames.proofs.Laws.{entry_room, single_parts, applied_stands, applied_room, pair_parts}
 use Rattle.frames.proofs.parts_of.Goals as goal
 
-pub bounds-work-p : goal.bounds-work-p
-bounds-work-p c = omega (arith, entry_room c.requires)
-
-pub overflow_add-result : goal.overflow_add-result
-overflow_add-result c = omega (arith, entry_room c.requires)
-
 pub returns-then-work-p : goal.returns-then-work-p
 returns-then-work-p c = single_parts c.if-work-p.true
 
-pub overflow_add-p : goal.overflow_add-p
-overflow_add-p c = omega (arith, entry_room c.requires)
-
 pub end_of-m-requires : goal.end_of-m-requires
 end_of-m-requires c = applied_stands c.if-work-p.false c.requires
-
-pub overflow_add-result-2 : goal.overflow_add-result-2
-overflow_add-result-2 c = omega (arith, entry_room c.requires)
 
 pub overflow_add-result-3 : goal.overflow_add-result-3
 overflow_add-result-3 c = omega (arith, applied_room c.if-work-p.false c.requires c.end_of-m.ensures)
