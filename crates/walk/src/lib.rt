@@ -80,6 +80,8 @@ pub struct WalkState {
     pub checked: bool,
     // B is the term's own text
     pub own: bool,
+    // B's bytes stand in the term; else in the work array
+    pub in_term: bool,
     // completed so far
     pub comparisons: usize,
     // where B begins in the term; in copied text, the variable that it stems from
@@ -100,8 +102,6 @@ pub struct WalkState {
     pub scope: usize,
     // the next group
     pub next: usize,
-    // B's bytes stand in the term; else in the work array
-    pub in_term: bool,
 }
 
 // What a turn comes to.
