@@ -2,7 +2,7 @@
 // filled with aa; of a page the text. differential/src/named.rs has the examples and the edges.
 #![tactic(auto)]
 
-use code::refusal::Refusal;
+use code::refusal::{Condition, Refusal};
 use std::io;
 
 fn bytes(rt: &impl Print, s: &[u8]) -> io::Result<()> {
@@ -83,30 +83,46 @@ fn count_strings(rt: &impl Print, length: usize) -> io::Result<()> {
 }
 
 fn check(rt: &impl Print, s: &[u8]) -> io::Result<()> {
-    let r = checker::check(s);
-    let (number, place) = (r.number, r.place);
-    let (comparisons, degree) = (r.comparisons, r.degree);
-    println!(rt; "check a file: {number} {place} {comparisons} {degree}")
+    print!(rt; "check a file: ")?;
+    match checker::check(s) {
+        Ok(checked) => println!(rt; "0 0 {} {}", checked.comparisons, checked.degree),
+        Err(refused) => {
+            println!(rt;
+                "{} {} {}",
+                refused.refusal, refused.comparisons, refused.degree
+            )
+        }
+    }
 }
 
 fn explain(rt: &impl Print, s: &[u8]) -> io::Result<()> {
     let mut left: [u8; 4] = [0xaa; 4];
     let mut right: [u8; 4] = [0xaa; 4];
-    let r = explaining::explain(s, &mut left, &mut right);
-    let (number, place) = (r.number, r.place);
-    let (comparisons, degree) = (r.comparisons, r.degree);
-    print!(rt; "explain a refusal: {number} {place} {comparisons} {degree}")?;
-    let (first, second, third) = (r.first, r.second, r.third);
-    print!(rt; " {first} {second} {third}")?;
+    print!(rt; "explain a refusal: ")?;
+    match explaining::explain(s, &mut left, &mut right) {
+        Ok(checked) => print!(rt; "0 0 {} {} 0 0 0", checked.comparisons, checked.degree)?,
+        Err(explained) => {
+            let number = u32::from(Condition::from(explained.cause));
+            print!(rt; "{number} {}", explained.place)?;
+            print!(rt; " {} {}", explained.comparisons, explained.degree)?;
+            let (first, second, third) = explained.cause.numbers();
+            print!(rt; " {first} {second} {third}")?;
+        }
+    }
     bytes(rt, &left)?;
     bytes(rt, &right)
 }
 
 fn check_set(rt: &impl Print, s: &[u8]) -> io::Result<()> {
-    let r = sets::check_set(s);
-    let (file, number, place) = (r.file, r.number, r.place);
-    let (comparisons, degree) = (r.comparisons, r.degree);
-    println!(rt; "check a set: {file} {number} {place} {comparisons} {degree}")
+    print!(rt; "check a set: ")?;
+    match sets::check_set(s) {
+        Ok(checked) => println!(rt; "{} 0 0 {} 0", checked.files, checked.comparisons),
+        Err(named) => {
+            let refused = named.refused;
+            print!(rt; "{} {}", named.file, refused.refusal)?;
+            println!(rt; " {} {}", refused.comparisons, refused.degree)
+        }
+    }
 }
 
 fn main(rt: HostRuntime) -> io::Result<()> {

@@ -28,11 +28,16 @@ use Rattle.verdict.proofs.Promises.{passing}
 use Rattle.files.specs.File.{Opened, refused, opened, open_term, open_fields, open_file}
 use Rattle.files.specs.Check.{groups_of, left_over, check_answer_of, check_opened_by, check_file_by, check_file}
 use Rattle.files.proofs.Answers.{opens, term_bytes_lem, says as answer_says}
-use Rattle.walk.specs.Clauses.{Walked, Answers, answer_passed, answer_stopped, Walkable, WalkAnswer}
+use Rattle.walk.specs.Clauses.{Answers, answer_passed, answer_stopped, Walkable, WalkAnswer, Walked, walked_says}
+use Rattle.walk.specs.declared.Walked.{Walked as Passed}
+use Rattle.walk.specs.declared.Stopped.{Stopped}
+use Rattle.compare.specs.Answers.{number_of_ground, ground_says}
+use Rattle.compare.specs.declared.Ground.{Ground}
+use Rattle.compare.specs.declared.Ground.TheVariants.{NoType, StillWaiting, NoGroupLeft, StepNotPossible, Outgrown, BodiesDiffer, GroupsLeft, NotReached}
+use Rattle.compare.proofs.Grounds.{ground_stops}
 use Rattle.walk.proofs.Beginning.{halts_answer}
-use Rattle.checker.specs.Answer.{CheckedAs, Checked}
+use Rattle.checker.specs.Answer.{CheckAnswer, check_says, before_walk, stopped_in_walk, CheckedAs, Checked}
 use Rattle.checker.specs.Clauses.{OpenedAs, open_refused, opened_term, Openable, RunAs, run_passed, run_stopped, FileWalked}
-use Rattle.checker.specs.declared.CheckAnswer.{CheckAnswer}
 use Rattle.checker.specs.declared.Opened as code
 use Rattle.checker.proofs.Left.{same_left, groups_drop, drop_groups}
 
@@ -80,6 +85,17 @@ opening {r} s a = go (open_file s) refl a
     go (opened t e gs) h (opened_term d) = record { openable = record { term = t; groups = gs; opens = h }; degree_is = d }
 
 -- WALKING
+-- the number of what stops a walk
+pub says_number : (x : Ground) → (ground_says x).number ≡ number_of_ground x
+says_number NoType = refl
+says_number (StillWaiting waiting) = refl
+says_number NoGroupLeft = refl
+says_number (StepNotPossible side step reason) = refl
+says_number Outgrown = refl
+says_number (BodiesDiffer left right) = refl
+says_number GroupsLeft = refl
+says_number NotReached = refl
+
 module _ (s : List ℕ) {e : ℕ} (b : Bytes s) where
   module _ (t : Term) (gs : List GroupAt) (o : open_file s ≡ opened t e gs) where
     well_formed : WellFormed (term_bytes s e) t
@@ -116,7 +132,7 @@ module _ (s : List ℕ) {e : ℕ} (b : Bytes s) where
           let e = drop_groups q.comparisons gs (groups d.0) q.left d.2 d.3 in
           (same_left j.1 p (e ∙ k)).1
 
-    pub walk_stopped : (w.number ≡ 0 → ⊥) → FileWalked s e left right w
+    walk_stopped : (w.number ≡ 0 → ⊥) → FileWalked s e left right w
     walk_stopped n = record { all = λ t gs o. go t gs (check_term t (groups_of gs)) (says t gs o) }
       where
         go : (t : Term) (gs : List GroupAt) (x : Run) → Answers s left right w x → RunAs gs left right w x
@@ -132,17 +148,21 @@ module _ (s : List ℕ) {e : ℕ} (b : Bytes s) where
         go t gs o (passed q) h (answer_passed hs z c k p) = run_passed {q = q} (λ d. rw (left_groups t gs o q h hs k p, ← c) (f hs p d)) m x y v
         go t gs o (stopped g q) h (answer_stopped a c) = absurd ((halts_answer a).1 z)
 
-    pub groups_left_lem : w.number ≡ 0 → w.next < length s → FileWalked s e left right (record { number = 13; place = w.next; comparisons = w.comparisons; next = 0; first = 0; second = 0; third = 0 })
+  module _ {w : Passed} {left right : List ℕ} (walks : WalkAnswer s (term_bytes s e) e left right (walked_says (Ok w))) where
+    pub groups_left_lem : w.next < length s → FileWalked s e left right (walked_says (Err (record { by = GroupsLeft; place = w.next; comparisons = w.comparisons })))
     unfolding left_over
-    groups_left_lem z l = passes _ z (λ q. omega arith) refl refl refl more_left
+    groups_left_lem l = passes walks _ refl (λ q. omega arith) refl refl refl more_left
       where
         more_left : (hs : List GroupAt) → Groups s w.next hs → (d : ℕ) → left_over w.comparisons d hs ≡ record { number = 13; place = w.next; comparisons = w.comparisons; degree = d }
         more_left hs (done k) d = let y : ⊥ = omega arith in absurd y
         more_left hs (more k j) d = refl
 
-    pub all_taken : w.number ≡ 0 → length s ≤ w.next → FileWalked s e left right (record { number = 0; place = 0; comparisons = w.comparisons; next = w.next; first = 0; second = 0; third = 0 })
+    pub all_taken : length s ≤ w.next → FileWalked s e left right (walked_says (Ok w))
     unfolding left_over
-    all_taken z l = passes _ z (λ q. omega arith) refl refl refl (λ hs p d. rw (none_left p l) refl)
+    all_taken l = passes walks _ refl (λ q. omega arith) refl refl refl (λ hs p d. rw (none_left p l) refl)
+
+  pub stopped_early : (x : Stopped) {left right : List ℕ} → WalkAnswer s (term_bytes s e) e left right (walked_says (Err x)) → FileWalked s e left right (walked_says (Err x))
+  stopped_early x walks = walk_stopped walks (ground_stops x.by)
 
 -- CHECKING
 -- the check's answer, by that of the walk
@@ -162,11 +182,11 @@ checked {s} b a = record {
 checked_as : {s : List ℕ} {n p c d : ℕ} → Bytes s → check_file s ≡ record { number = n; place = p; comparisons = c; degree = d } → Checked s (record { number = n; place = p; comparisons = c; degree = d })
 checked_as b h = checked b (rw h (record { number_is = refl; place_is = refl; comparisons_is = refl; degree_is = refl }))
 
-pub check_refused : {s : List ℕ} {x : Refusal} → Bytes s → OpenedAs (Err x) (open_file s) → Checked s (record { number = number_of x.condition; place = x.place; comparisons = 0; degree = 0 })
+pub check_refused : {s : List ℕ} {x : Refusal} → Bytes s → OpenedAs (Err x) (open_file s) → Checked s (check_says (Err (before_walk x)))
 unfolding check_file_by check_opened_by
 check_refused {s} b a = checked_as b (ap (check_opened_by latest) (refused_is s a))
 
-pub check_walked : {s : List ℕ} {r : code.Opened} {w : Walked} {left right : List ℕ} → Bytes s → OpenedAs (Ok r) (open_file s) → FileWalked s r.end left right w
+check_walked : {s : List ℕ} {r : code.Opened} {w : Walked} {left right : List ℕ} → Bytes s → OpenedAs (Ok r) (open_file s) → FileWalked s r.end left right w
     → Checked s (record { number = w.number; place = w.place; comparisons = w.comparisons; degree = r.degree })
 unfolding check_file_by check_opened_by
 check_walked {s} {w = w} b a f =
@@ -175,3 +195,11 @@ check_walked {s} {w = w} b a f =
     (ap (check_opened_by latest) o.openable.opens
     ∙ answer_of (degree ε o.openable.term) (f.all o.openable.term o.openable.groups o.openable.opens)
     ∙ ap (λ (d : ℕ). record { number = w.number; place = w.place; comparisons = w.comparisons; degree = d }) (sym o.degree_is))
+
+pub check_passed : {s : List ℕ} {r : code.Opened} {w : Passed} {left right : List ℕ} → Bytes s → OpenedAs (Ok r) (open_file s) → FileWalked s r.end left right (walked_says (Ok w))
+    → Checked s (check_says (Ok (record { comparisons = w.comparisons; degree = r.degree })))
+check_passed b a f = check_walked b a f
+
+pub check_stopped : {s : List ℕ} {r : code.Opened} (x : Stopped) {left right : List ℕ} → Bytes s → OpenedAs (Ok r) (open_file s) → FileWalked s r.end left right (walked_says (Err x))
+    → Checked s (stopped_in_walk x r.degree)
+check_stopped x b a f = rw (says_number x.by) at (check_walked b a f)

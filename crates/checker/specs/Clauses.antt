@@ -10,7 +10,7 @@ use Rattle.fields.specs.Fields.{GroupAt}
 use Rattle.verdict.specs.Verdict.{Ground, Progress, Run, passed, stopped, check_term}
 use Rattle.files.specs.File.{Opened, refused, opened, open_file}
 use Rattle.files.specs.Check.{groups_of, left_over}
-use Rattle.walk.specs.Clauses.{Walked, Halts}
+use Rattle.walk.specs.Clauses.{Halts, Walked}
 use Rattle.checker.specs.declared.Opened as code
 
 -- What the answer says of an opened file.

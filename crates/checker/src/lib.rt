@@ -1,25 +1,59 @@
 // Check a file: the fifth call; and its two parts, which the explaining call has too.
 #![tactic(auto)]
 
+ghost use Rattle.std.specs.Prelude.{◌≡◌};
 ghost use Rattle.compare.specs.Sides.{Buffers};
+ghost use Rattle.compare.specs.Answers.{number_of_ground};
 ghost use Rattle.files.specs.File.{open_file};
 ghost use Rattle.walk.specs.Clauses.{walked_says};
-ghost use Rattle.checker.specs.Answer.{Checked};
+ghost use Rattle.checker.specs.Answer.{before_walk, stopped_in_walk, check_says, Checked as CheckedFile};
 ghost use Rattle.checker.specs.Clauses.{OpenedAs, Openable, FileWalked};
 
-use code::numbers::{ACCEPTED, LONGEST_TERM};
+use code::numbers::LONGEST_TERM;
 use code::refusal::{Condition, Refusal};
 use compare::Ground;
 use letters::Letters;
 use walk::{Stopped, Walked, walk_term};
 
-// Number (0 if accepted), place, comparisons completed, degree.
-#[derive(Drop)]
-pub struct CheckAnswer {
-    pub number: u32,
-    pub place: usize,
+// An accepted file: the comparisons completed, and the degree of its term.
+#[derive(Clone, Copy)]
+pub struct Checked {
     pub comparisons: usize,
     pub degree: usize,
+}
+
+// A refused file: why and where, the comparisons completed, and the degree of its term, which is 0 where it is refused before the walk.
+#[derive(Clone, Copy)]
+pub struct Refused {
+    pub refusal: Refusal,
+    pub comparisons: usize,
+    pub degree: usize,
+}
+
+// Before the walk.
+impl From<Refusal> for Refused {
+    ghost from_gives = { λ refusal refused. refused ≡ before_walk refusal };
+
+    fn from(refusal: Refusal) -> Refused {
+        Refused {
+            refusal,
+            comparisons: 0,
+            degree: 0,
+        }
+    }
+}
+
+impl Refused {
+    // In the walk of a term of this degree.
+    pub fn in_walk(stopped: Stopped, degree: usize) -> Refused
+        ensures { check_says (Err result) ≡ stopped_in_walk stopped degree }
+    {
+        Refused {
+            refusal: Condition::from(stopped.by).at(stopped.place),
+            comparisons: stopped.comparisons,
+            degree,
+        }
+    }
 }
 
 // An opened file: where its term ends, and the term's degree.
@@ -41,8 +75,8 @@ pub fn open_file(s: &[u8]) -> Result<Opened, Refusal>
     Ok(Opened { end, degree })
 }
 
-// Walks the term of an opened file, which ends at `end`, with the groups after it; then no group may be left. What stops it is as `walk`
-// has it: of two bodies that differ, both stand in the lent arrays.
+// Walks the term of an opened file, which ends at `end`, with the groups after it; then 13. What stops it is as `walk` has it: for 12 the two
+// bodies stand in the lent arrays.
 pub fn walk_file(
     s: &[u8],
     end: usize,
@@ -65,34 +99,18 @@ pub fn walk_file(
 }
 
 // Checks a file.
-pub fn check(s: &[u8]) -> CheckAnswer
-    ensures { Checked s.now result }
+pub fn check(s: &[u8]) -> Result<Checked, Refused>
+    ensures { CheckedFile s.now (check_says result) }
 {
-    let opened = match open_file(s) {
-        Ok(opened) => opened,
-        Err(refusal) => {
-            return CheckAnswer {
-                number: u32::from(refusal.condition),
-                place: refusal.place,
-                comparisons: 0,
-                degree: 0,
-            };
-        }
-    };
+    let opened = open_file(s)?;
+    let degree = opened.degree;
     let mut left: Letters = [0; LONGEST_TERM];
     let mut right: Letters = [0; LONGEST_TERM];
     match walk_file(s, opened.end, &mut left, &mut right) {
-        Ok(walked) => CheckAnswer {
-            number: ACCEPTED,
-            place: 0,
+        Ok(walked) => Ok(Checked {
             comparisons: walked.comparisons,
-            degree: opened.degree,
-        },
-        Err(stopped) => CheckAnswer {
-            number: u32::from(Condition::from(stopped.by)),
-            place: stopped.place,
-            comparisons: stopped.comparisons,
-            degree: opened.degree,
-        },
+            degree,
+        }),
+        Err(stopped) => Err(Refused::in_walk(stopped, degree)),
     }
 }

@@ -1,7 +1,7 @@
 -- What the parts of `explain` make of its answer.
 -- Assumes nothing.
 use Prim.Native.Nat.{ℕ, ◌≤◌, ◌<◌}
-use mathlib.Core.Path.{◌≡◌, refl, ap, sym, ◌∙◌}
+use mathlib.Core.Path.{◌≡◌, refl, ap, sym, ◌∙◌, subst}
 use mathlib.Core.Bool.{Bool, true, false, cond}
 use mathlib.Core.Logic.{◌⊎◌, inl, inr}
 use mathlib.Core.List.{List, ◌++◌}
@@ -13,7 +13,14 @@ use borrow.Author.Tests.{le-leb, lt-leb}
 use Rattle.calculus.specs.Terms.{Term}
 use Rattle.calculus.specs.Frames.{ε}
 use Rattle.calculus.specs.Types.{degree}
-use Rattle.std.proofs.Common.{Err}
+use Rattle.std.specs.Prelude.{Option, Some, None}
+use Rattle.std.proofs.Common.{Ok, Err}
+use Rattle.code.specs.declared.refusal.Condition.{Condition}
+use Rattle.bodies.specs.declared.Reason.{Reason}
+use Rattle.compare.specs.Answers.{ground_says, number_of_ground}
+use Rattle.compare.specs.declared.Side.{Side}
+use Rattle.compare.specs.declared.Ground as compare
+use Rattle.compare.specs.declared.Ground.TheVariants.{NoType, StillWaiting, NoGroupLeft, StepNotPossible, Outgrown, BodiesDiffer, GroupsLeft, NotReached}
 use Rattle.code.specs.Refusals.{number_of}
 use Rattle.code.specs.declared.refusal.Refusal.{Refusal}
 use Rattle.code.specs.Code.{Bytes, encode}
@@ -29,18 +36,20 @@ use Rattle.files.specs.File.{opened, open_file}
 use Rattle.files.specs.Check as files
 use Rattle.files.specs.Check.{groups_of, check_answer_of, check_opened_by}
 use Rattle.compare.specs.Sides.{Buffers}
-use Rattle.compare.specs.Answers.{Compared, ground_says}
-use Rattle.compare.specs.declared.Ground.{Ground as Halt}
-use Rattle.compare.specs.declared.Ground.TheVariants.{NoType, StillWaiting, NoGroupLeft, StepNotPossible, Outgrown, BodiesDiffer, GroupsLeft, NotReached}
+use Rattle.compare.specs.Answers.{Compared}
 use Rattle.compare.specs.Compares.{GroundIs, is_untyped, is_no_group, is_refused, is_type_outgrown, is_domain_outgrown, is_step_outgrown, is_different}
-use Rattle.walk.specs.Clauses.{Walked, Halts, halts_waiting, halts_outgrown, halts_compared}
+use Rattle.walk.specs.Clauses.{Halts, halts_waiting, halts_outgrown, halts_compared, Walked, walked_says}
+use Rattle.walk.specs.declared.Walked.{Walked as Passed}
+use Rattle.walk.specs.declared.Stopped.{Stopped}
 use Rattle.checker.specs.Clauses.{OpenedAs, RunAs, run_passed, run_stopped, FileWalked}
 use Rattle.files.proofs.Answers.{opens, closed}
-use Rattle.checker.proofs.Checking.{refused_is, answer_of}
+use Rattle.checker.specs.declared.Opened as code
+use Rattle.checker.proofs.Checking.{refused_is, opening, answer_of}
 use Rattle.explaining.specs.Explain.{difference, handed_both, told, explain_ground, explain_run, explain_opened, explain_file}
-use Rattle.explaining.specs.Clauses.{explained_says, TwoBodies, Delivers}
+use Rattle.explaining.specs.Clauses.{cause_number, first_of, second_of, third_of, explained_says, before_the_walk, TwoBodies, handed_says, Delivers}
 use Rattle.explaining.specs.Claims.{Differing}
-use Rattle.explaining.specs.declared.Explained.{Explained}
+use Rattle.explaining.specs.declared.Cause.{Cause}
+use Rattle.explaining.specs.declared.Cause.TheVariants as cause
 use Rattle.explaining.proofs.Differences.{differing, terms_apart, followed, apart_followed}
 
 either : {A : Type 0} {x : A} (b : Bool) → x ≡ cond b x x
@@ -62,29 +71,25 @@ module _ {a b : List ℕ} {n k : ℕ} {left right left' right' : List ℕ} (ln :
       let q = terms_apart p.left_lies.coded p.right_lies.coded p.differ in
       rw (written_starts p.left_lies ln w, written_starts p.right_lies lk v) (differing (apart_followed (encode p.left_body) (encode p.right_body) _ _ q))
 
-  pub delivers_both : (place comparisons degree d : ℕ) → d ≡ difference left' right'
-      → Delivers place comparisons degree a n b k left right (record { number = 12; place = place; comparisons = comparisons; degree = degree; first = n; second = k; third = d }) left' right'
+  pub delivers_both : (d : ℕ) → d ≡ difference left' right' → Delivers a n b k left right (Some d) left' right'
   unfolding handed_both
-  delivers_both place comparisons degree d e = record { all = both }
+  delivers_both d e = record { all = both }
     where
-      both : (t u : Term) → Lies a 0 n 0 0 t → Lies b 0 k 0 0 u → (t ≡ u → ⊥)
-          → explained_says (record { number = 12; place = place; comparisons = comparisons; degree = degree; first = n; second = k; third = d }) left' right'
-          ≡ handed_both (record { number = 12; place = place; comparisons = comparisons; degree = degree }) left right (encode t) (encode u)
-      both t u h j m =
+      both : (x : files.CheckAnswer) (t u : Term) → Lies a 0 n 0 0 t → Lies b 0 k 0 0 u → (t ≡ u → ⊥) → handed_says x n k (Some d) left' right' ≡ handed_both x left right (encode t) (encode u)
+      both x t u h j m =
           let same : d ≡ difference (encode t) (encode u) = e ∙ rw (written_starts h ln w, written_starts j lk v) (followed (encode t) (encode u) _ _ (terms_apart h.coded j.coded m)) in
           rw (lies_length h, lies_length j, le-leb n (length left) ln, le-leb k (length right) lk, w.bytes t h, v.bytes u j, same) refl
 
-module _ {a b : List ℕ} {n k : ℕ} {left right : List ℕ} (place comparisons degree : ℕ) where
-  pub delivers_none : (length left < n) ⊎ (length right < k)
-      → Delivers place comparisons degree a n b k left right (record { number = 14; place = 0; comparisons = comparisons; degree = degree; first = 0; second = 0; third = 0 }) left right
+module _ {a b : List ℕ} {n k : ℕ} {left right : List ℕ} where
+  pub delivers_none : (length left < n) ⊎ (length right < k) → Delivers a n b k left right None left right
   unfolding handed_both
-  delivers_none (inl l) = record { all = λ t u h j m. rw (lies_length h, lt-leb n (length left) l) refl }
-  delivers_none (inr r) = record { all = λ t u h j m. rw (lies_length j, lt-leb k (length right) r) (either (leb (length (encode t)) (length left))) }
+  delivers_none (inl l) = record { all = λ x t u h j m. rw (lies_length h, lt-leb n (length left) l) refl }
+  delivers_none (inr r) = record { all = λ x t u h j m. rw (lies_length j, lt-leb k (length right) r) (either (leb (length (encode t)) (length left))) }
 
 -- THE ANSWER
 -- before the walk
 pub told_refused : (s left right : List ℕ) {x : Refusal} → OpenedAs (Err x) (open_file s)
-    → explained_says (record { number = number_of x.condition; place = x.place; comparisons = 0; degree = 0; first = 0; second = 0; third = 0 }) left right ≡ explain_file s left right
+    → explained_says (Err (before_the_walk x)) left right ≡ explain_file s left right
 unfolding explain_file explain_opened check_opened_by
 told_refused s left right a = sym (ap (explain_opened left right) (refused_is s a))
 
@@ -109,17 +114,6 @@ told_run : (x : files.CheckAnswer) (left right : List ℕ) {gs : List GroupAt} {
 unfolding explain_run
 told_run x left right (run_passed f m p q r) n = rw (p, q, r) refl
 told_run x left right (run_stopped h c) n = told_ground x left right h n
-
--- nothing else has the number 12
-pub other_number : (h : Halt) → ((n k : ℕ) → h ≡ BodiesDiffer n k → ⊥) → (ground_says h).number ≡ 12 → ⊥
-other_number NoType f e = omega arith
-other_number (StillWaiting n) f e = omega arith
-other_number NoGroupLeft f e = omega arith
-other_number (StepNotPossible side n why) f e = omega arith
-other_number Outgrown f e = omega arith
-other_number (BodiesDiffer n k) f e = f n k refl
-other_number GroupsLeft f e = omega arith
-other_number NotReached f e = omega arith
 
 -- the bodies of a 12
 record Bodies (a b : List ℕ) (w : Walked) (z : Run) : Type 0 where
@@ -146,6 +140,31 @@ bodies_run (run_stopped (halts_waiting k p f s t) c) n = let z : ⊥ = omega ari
 bodies_run (run_stopped (halts_outgrown k p f s t) c) n = let z : ⊥ = omega arith in absurd z
 bodies_run (run_stopped {q = q} (halts_compared g k p f s t) c) n = bodies_compared q g (sym k ∙ n) p f s
 
+-- What the code tells of a ground other than 12.
+pub record Tells (g : compare.Ground) (x : Cause) : Type 0 where
+  pub number_is : cause_number x ≡ (ground_says g).number
+  pub first_is : first_of x ≡ (ground_says g).first
+  pub second_is : second_of x ≡ (ground_says g).second
+  pub third_is : third_of x ≡ (ground_says g).third
+  pub no_bodies : (ground_says g).number ≡ 12 → ⊥
+
+pub tells_waiting : {g : compare.Ground} {n : ℕ} → g ≡ StillWaiting n → Tells g (cause.StillWaiting n)
+tells_waiting e = rw e (record { number_is = refl; first_is = refl; second_is = refl; third_is = refl; no_bodies = λ z. omega arith })
+
+pub tells_step : {g : compare.Ground} {side : Side} {n : ℕ} {why : Reason} → g ≡ StepNotPossible side n why → Tells g (cause.StepNotPossible side n why)
+tells_step e = rw e (record { number_is = refl; first_is = refl; second_is = refl; third_is = refl; no_bodies = λ z. omega arith })
+
+pub tells_other : (g : compare.Ground) {c : Condition} → number_of c ≡ number_of_ground g → ((n k : ℕ) → g ≡ BodiesDiffer n k → ⊥) → ((n : ℕ) → g ≡ StillWaiting n → ⊥)
+    → ((side : Side) (n : ℕ) (why : Reason) → g ≡ StepNotPossible side n why → ⊥) → Tells g (cause.Other c)
+tells_other NoType e b w s = record { number_is = e; first_is = refl; second_is = refl; third_is = refl; no_bodies = λ z. omega arith }
+tells_other (StillWaiting n) e b w s = absurd (w n refl)
+tells_other NoGroupLeft e b w s = record { number_is = e; first_is = refl; second_is = refl; third_is = refl; no_bodies = λ z. omega arith }
+tells_other (StepNotPossible side n why) e b w s = absurd (s side n why refl)
+tells_other Outgrown e b w s = record { number_is = e; first_is = refl; second_is = refl; third_is = refl; no_bodies = λ z. omega arith }
+tells_other (BodiesDiffer n k) e b w s = absurd (b n k refl)
+tells_other GroupsLeft e b w s = record { number_is = e; first_is = refl; second_is = refl; third_is = refl; no_bodies = λ z. omega arith }
+tells_other NotReached e b w s = record { number_is = e; first_is = refl; second_is = refl; third_is = refl; no_bodies = λ z. omega arith }
+
 -- an opened file's answer, by its run
 module _ (s left right : List ℕ) {t : Term} {e : ℕ} {gs : List GroupAt} (o : open_file s ≡ opened t e gs) {d : ℕ} (g : d ≡ degree ε t) {w : Walked} {x y : List ℕ} (f : FileWalked s e x y w) where
   abbrev answer : files.CheckAnswer
@@ -158,8 +177,7 @@ module _ (s left right : List ℕ) {t : Term} {e : ℕ} {gs : List GroupAt} (o :
       answer_of (degree ε t) (f.all t gs o) ∙ ap (λ (d : ℕ). record { number = w.number; place = w.place; comparisons = w.comparisons; degree = d }) (sym g) in
       ap (explain_opened left right) o ∙ ap (λ (c : files.CheckAnswer). explain_run c left right (check_term t (groups_of gs))) a
 
-  pub told_walked : (w.number ≡ 12 → ⊥)
-      → explained_says (record { number = w.number; place = w.place; comparisons = w.comparisons; degree = d; first = w.first; second = w.second; third = w.third }) left right ≡ explain_file s left right
+  told_walked : (w.number ≡ 12 → ⊥) → told answer left right w.first w.second w.third ≡ explain_file s left right
   told_walked n = sym (explained ∙ told_run answer left right (f.all t gs o) n)
 
   module _ (b : Bytes s) (n : w.number ≡ 12) where
@@ -171,12 +189,42 @@ module _ (s left right : List ℕ) {t : Term} {e : ℕ} {gs : List GroupAt} (o :
         let c = closed s t e gs (opens s t e gs o) b in
         (stopped_forms c (grounds.stopped_so t (groups_of gs) (different_bodies w.place both.left_body both.right_body) both.progress c both.run_is)).differ
 
-    pub two_bodies : Buffers x y → TwoBodies x w.first y w.second
-    two_bodies l = record { buffers = l; left_body = both.left_body; right_body = both.right_body; left_lies = both.left_lies; right_lies = both.right_lies; differ = apart }
+    two_bodies_of : Buffers x y → TwoBodies x w.first y w.second
+    two_bodies_of l = record { buffers = l; left_body = both.left_body; right_body = both.right_body; left_lies = both.left_lies; right_lies = both.right_lies; differ = apart }
 
-    pub told_bodies : {r : Explained} {left' right' : List ℕ} → Delivers w.place w.comparisons d x w.first y w.second left right r left' right' → explained_says r left' right' ≡ explain_file s left right
+    handed : {z : Option ℕ} {left' right' : List ℕ} → Delivers x w.first y w.second left right z left' right'
+        → handed_says (record { number = 12; place = w.place; comparisons = w.comparisons; degree = d }) w.first w.second z left' right' ≡ explain_file s left right
     unfolding explain_run explain_ground
-    told_bodies v =
-        v.all both.left_body both.right_body both.left_lies both.right_lies apart
+    handed v =
+        v.all (record { number = 12; place = w.place; comparisons = w.comparisons; degree = d }) both.left_body both.right_body both.left_lies both.right_lies apart
         ∙ ap (λ (m : ℕ). handed_both (record { number = m; place = w.place; comparisons = w.comparisons; degree = d }) left right (encode both.left_body) (encode both.right_body)) (sym n)
         ∙ sym (explained ∙ ap (explain_run answer left right) both.run_is)
+
+-- by the code's answer of the walk
+pub told_passed : (s left right : List ℕ) {r : code.Opened} {w : Passed} {x y : List ℕ} → OpenedAs (Ok r) (open_file s) → FileWalked s r.end x y (walked_says (Ok w))
+    → explained_says (Ok (record { comparisons = w.comparisons; degree = r.degree })) left right ≡ explain_file s left right
+told_passed s left right a f = let o = opening s a in told_walked s left right o.openable.opens o.degree_is f (λ z. omega arith)
+
+module _ (s left right : List ℕ) {r : code.Opened} (w : Stopped) {x y : List ℕ} (a : OpenedAs (Ok r) (open_file s)) (f : FileWalked s r.end x y (walked_says (Err w))) where
+  -- a ground other than 12
+  pub told_stopped : (t : Cause) → Tells w.by t → explained_says (Err (record { cause = t; place = w.place; comparisons = w.comparisons; degree = r.degree })) left right ≡ explain_file s left right
+  told_stopped t k =
+      let o = opening s a in
+      rw (k.number_is, k.first_is, k.second_is, k.third_is) (told_walked s left right o.openable.opens o.degree_is f k.no_bodies)
+
+  -- 12
+  pub two_bodies : {n k : ℕ} → Bytes s → w.by ≡ BodiesDiffer n k → Buffers x y → TwoBodies x n y k
+  two_bodies b e l =
+      let o = opening s a in
+      rw e at (two_bodies_of s left right o.openable.opens o.degree_is f b (ap (λ (g : compare.Ground). (ground_says g).number) e) l)
+
+  pub told_bodies : {n k : ℕ} {z : Option ℕ} {left' right' : List ℕ} → Bytes s → w.by ≡ BodiesDiffer n k → Delivers x n y k left right z left' right'
+      → handed_says (record { number = 12; place = w.place; comparisons = w.comparisons; degree = r.degree }) n k z left' right' ≡ explain_file s left right
+  told_bodies {n} {k} {z} {left'} {right'} b e v =
+      let o = opening s a in
+      let first : n ≡ (ground_says w.by).first = ap (λ (g : compare.Ground). (ground_says g).first) (sym e) in
+      let second : k ≡ (ground_says w.by).second = ap (λ (g : compare.Ground). (ground_says g).second) (sym e) in
+      let v' : Delivers x (ground_says w.by).first y (ground_says w.by).second left right z left' right' =
+      subst (λ (m : ℕ). Delivers x m y (ground_says w.by).second left right z left' right') first (subst (λ (m : ℕ). Delivers x n y m left right z left' right') second v) in
+      let h = handed s left right o.openable.opens o.degree_is f b (ap (λ (g : compare.Ground). (ground_says g).number) e) {z = z} {left' = left'} {right' = right'} v' in
+      rw (first, second) h

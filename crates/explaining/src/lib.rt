@@ -3,28 +3,95 @@
 #![tactic(auto)]
 
 ghost use Rattle.std.specs.Prelude.{◌≡◌};
+ghost use Rattle.code.specs.Refusals.{number_of};
 ghost use Rattle.explaining.specs.Explain.{difference, explain_file};
-ghost use Rattle.explaining.specs.Clauses.{explained_says, TwoBodies, Delivers};
+ghost use Rattle.explaining.specs.Clauses.{cause_number, first_of, second_of, third_of, before_the_walk, explained_says, TwoBodies, Delivers};
 ghost use Rattle.explaining.specs.Claims.{Differing, Promises};
 
-use checker::{open_file, walk_file};
-use code::numbers::{ACCEPTED, BODIES_DIFFER, BUFFER_TOO_SHORT, LONGEST_TERM};
-use code::refusal::Condition;
-use compare::Ground;
+use bodies::Reason;
+use checker::{Checked, open_file, walk_file};
+use code::numbers::LONGEST_TERM;
+use code::refusal::{Condition, Refusal};
+use compare::{Ground, Side};
 use letters::Letters;
 
-// The check's four numbers, and then: for 12 the lengths of the two bodies and the place of the first byte at which they differ; for 10
-// the side (0 left, 1 right), the step's number in its list from 0, and the condition (1 kind, 2 place, 3 byte, 4 no partner, 5 still
-// used); for 8 how many wait; else 0 0 0.
-#[derive(Clone, Copy)]
+// What stopped the check, with what more is told of it: how many applicators wait; the side, the step's number in its list from 0, and why it is
+// not possible; or the lengths of the two bodies, which stand in the buffers, and the place of the first byte at which they differ.
+#[derive(Clone, Copy, Debug, PartialEq, Eq)]
+pub enum Cause {
+    StillWaiting {
+        waiting: usize,
+    },
+    StepNotPossible {
+        side: Side,
+        step: usize,
+        reason: Reason,
+    },
+    BodiesDiffer {
+        left: usize,
+        right: usize,
+        difference: usize,
+    },
+    Other(Condition),
+}
+
+impl Cause {
+    // What more is told, in numbers; else 0 0 0.
+    pub fn numbers(self) -> (usize, usize, usize)
+        ensures first { result.0 ≡ first_of self }
+        ensures second { result.1 ≡ second_of self }
+        ensures third { result.2 ≡ third_of self }
+    {
+        match self {
+            Cause::StillWaiting { waiting } => (waiting, 0, 0),
+            Cause::StepNotPossible { side, step, reason } => {
+                (usize::from(side), step, usize::from(reason))
+            }
+            Cause::BodiesDiffer {
+                left,
+                right,
+                difference,
+            } => (left, right, difference),
+            Cause::Other(_) => (0, 0, 0),
+        }
+    }
+}
+
+// Its condition.
+impl From<Cause> for Condition {
+    ghost from_gives = { λ cause condition. number_of condition ≡ cause_number cause };
+
+    fn from(cause: Cause) -> Condition {
+        match cause {
+            Cause::StillWaiting { .. } => Condition::StillWaiting,
+            Cause::StepNotPossible { .. } => Condition::StepNotPossible,
+            Cause::BodiesDiffer { .. } => Condition::BodiesDiffer,
+            Cause::Other(condition) => condition,
+        }
+    }
+}
+
+// A refusal: why, the place, the comparisons completed, and the degree, as the check has them, or 14.
+#[derive(Clone, Copy, Debug, PartialEq, Eq)]
 pub struct Explained {
-    pub number: u32,
+    pub cause: Cause,
     pub place: usize,
     pub comparisons: usize,
     pub degree: usize,
-    pub first: usize,
-    pub second: usize,
-    pub third: usize,
+}
+
+// Before the walk.
+impl From<Refusal> for Explained {
+    ghost from_gives = { λ refusal explained. explained ≡ before_the_walk refusal };
+
+    fn from(refusal: Refusal) -> Explained {
+        Explained {
+            cause: Cause::Other(refusal.condition),
+            place: refusal.place,
+            comparisons: 0,
+            degree: 0,
+        }
+    }
 }
 
 // The place of the first byte at which two bodies differ: neither is a beginning of the other, so that there is one.
@@ -44,98 +111,74 @@ fn first_difference(left: &[u8], right: &[u8]) -> usize
     offset
 }
 
-// Hands over two bodies that differ, of n and k letters.
+// Hands over two bodies that differ, of n and k letters: the place of the first byte at which they differ, or none where either buffer is too
+// short, and then both keep every byte.
 #[tactic(auto, using(crate::proofs::Telling::delivers_none, crate::proofs::Telling::delivers_both))]
 fn deliver(
-    place: usize,
-    comparisons: usize,
-    degree: usize,
     a: &Letters,
     n: usize,
     b: &Letters,
     k: usize,
     left: &mut [u8],
     right: &mut [u8],
-) -> Explained
+) -> Option<usize>
     requires { TwoBodies a.now n b.now k }
-    ensures { Delivers place comparisons degree a.now n b.now k left.old right.old result left.new right.new }
+    ensures { Delivers a.now n b.now k left.old right.old result left.new right.new }
 {
     if left.len() < n || right.len() < k {
-        return Explained {
-            number: BUFFER_TOO_SHORT,
-            place: 0,
-            comparisons,
-            degree,
-            first: 0,
-            second: 0,
-            third: 0,
-        };
+        return None;
     }
     letters::write(a, n, left);
     letters::write(b, k, right);
-    let difference = first_difference(left, right);
-    Explained {
-        number: BODIES_DIFFER,
-        place,
-        comparisons,
-        degree,
-        first: n,
-        second: k,
-        third: difference,
-    }
+    Some(first_difference(left, right))
 }
 
 // Checks a file, and says what stopped it. For 12 the bodies as reached are written to the starts of the buffers, or, where either is too
 // short, the answer is 14 and neither is; at every other answer both keep every byte.
-pub fn explain(s: &[u8], left: &mut [u8], right: &mut [u8]) -> Explained
+pub fn explain(s: &[u8], left: &mut [u8], right: &mut [u8]) -> Result<Checked, Explained>
     ensures { explained_says result left.new right.new ≡ explain_file s.now left.old right.old }
 {
-    let opened = match open_file(s) {
-        Ok(opened) => opened,
-        Err(refusal) => {
-            return Explained {
-                number: u32::from(refusal.condition),
-                place: refusal.place,
-                comparisons: 0,
-                degree: 0,
-                first: 0,
-                second: 0,
-                third: 0,
-            };
-        }
-    };
+    let opened = open_file(s)?;
     let degree = opened.degree;
     let mut a: Letters = [0; LONGEST_TERM];
     let mut b: Letters = [0; LONGEST_TERM];
-    let walked = match walk_file(s, opened.end, &mut a, &mut b) {
-        Ok(walked) => walked,
-        Err(stopped) => {
-            let place = stopped.place;
-            let comparisons = stopped.comparisons;
-            if let Ground::BodiesDiffer { left: n, right: k } = stopped.by {
-                return deliver(place, comparisons, degree, &a, n, &b, k, left, right);
-            }
-            let (first, second, third) = stopped.by.numbers();
-            return Explained {
-                number: u32::from(Condition::from(stopped.by)),
-                place,
-                comparisons,
+    let stopped = match walk_file(s, opened.end, &mut a, &mut b) {
+        Ok(walked) => {
+            return Ok(Checked {
+                comparisons: walked.comparisons,
                 degree,
-                first,
-                second,
-                third,
-            };
+            });
         }
+        Err(stopped) => stopped,
     };
-    Explained {
-        number: ACCEPTED,
-        place: 0,
-        comparisons: walked.comparisons,
+    let cause = match stopped.by {
+        Ground::BodiesDiffer { left: n, right: k } => match deliver(&a, n, &b, k, left, right) {
+            Some(difference) => Cause::BodiesDiffer {
+                left: n,
+                right: k,
+                difference,
+            },
+            None => {
+                return Err(Explained {
+                    cause: Cause::Other(Condition::BufferTooShort),
+                    place: 0,
+                    comparisons: stopped.comparisons,
+                    degree,
+                });
+            }
+        },
+        Ground::StillWaiting { waiting } => Cause::StillWaiting { waiting },
+        Ground::StepNotPossible { side, step, reason } => {
+            Cause::StepNotPossible { side, step, reason }
+        }
+        ground => Cause::Other(Condition::from(ground)),
+    };
+    Err(Explained {
+        cause,
+        place: stopped.place,
+        comparisons: stopped.comparisons,
         degree,
-        first: 0,
-        second: 0,
-        third: 0,
-    }
+    })
 }
 
 #[tactic(auto, using(crate::proofs::Promised::promised))]

@@ -12,7 +12,8 @@ use Rattle.examine.specs.Inspect.{TermAnswer, term_says}
 use Rattle.files.specs.File.{FileAnswer}
 use Rattle.calls.specs.Answers.{Written, type_says, step_says}
 use Rattle.explaining.specs.Explain.{Explanation}
-use Rattle.explaining.specs.Clauses.{explained_says}
+use Rattle.checker.specs.declared.Checked.{Checked}
+use Rattle.explaining.specs.Clauses.{cause_number, first_of, second_of, third_of, explained_says}
 use Rattle.explaining.specs.declared.Explained.{Explained}
 use Rattle.exports.specs.Numbers.{result_numbers, term_numbers, file_numbers, none_of, Given, Explains}
 
@@ -35,5 +36,9 @@ pub given_step : (r : Result ℕ Refusal) {out before : List ℕ} {w : Written} 
 given_step (Ok n) h = rw (← h) (record { numbers = refl; buffer = refl })
 given_step (Err r) h = rw (← h) (record { numbers = refl; buffer = refl })
 
-pub given_explained : {r : Explained} {left right : List ℕ} {x : Explanation} → explained_says r left right ≡ x → Explains x (r.number ∷ r.place ∷ r.comparisons ∷ r.degree ∷ r.first ∷ r.second ∷ r.third ∷ 0 ∷ []) left right
-given_explained h = rw (← h) (record { numbers = refl; left_buffer = refl; right_buffer = refl })
+pub given_checked : {c : Checked} {left right : List ℕ} {x : Explanation} → explained_says (Ok c) left right ≡ x → Explains x (0 ∷ 0 ∷ c.comparisons ∷ c.degree ∷ 0 ∷ 0 ∷ 0 ∷ 0 ∷ []) left right
+given_checked h = rw (← h) (record { numbers = refl; left_buffer = refl; right_buffer = refl })
+
+pub given_explained : (e : Explained) {n a b c : ℕ} {left right : List ℕ} {x : Explanation} → explained_says (Err e) left right ≡ x → n ≡ cause_number e.cause → a ≡ first_of e.cause → b ≡ second_of e.cause → c ≡ third_of e.cause
+    → Explains x (n ∷ e.place ∷ e.comparisons ∷ e.degree ∷ a ∷ b ∷ c ∷ 0 ∷ []) left right
+given_explained e h p q r t = rw (p, q, r, t, ← h) (record { numbers = refl; left_buffer = refl; right_buffer = refl })

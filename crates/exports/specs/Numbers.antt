@@ -8,7 +8,8 @@ use Rattle.files.specs.File.{FileAnswer}
 use Rattle.files.specs.Check.{CheckAnswer}
 use Rattle.calls.specs.Answers.{Written, nothing, answer}
 use Rattle.counting.specs.Counts.{CountAnswer}
-use Rattle.sets.specs.declared.SetAnswer.{SetAnswer}
+use Rattle.checker.specs.declared.Refused.{Refused}
+use Rattle.sets.specs.Sets.{SetAnswer}
 use Rattle.explaining.specs.Explain.{Explanation}
 
 -- Number, place and what was found.
@@ -25,6 +26,9 @@ file_numbers a = a.number ∷ a.place ∷ length a.part ∷ []
 
 abbrev pub check_numbers : CheckAnswer → List ℕ
 check_numbers a = a.number ∷ a.place ∷ a.comparisons ∷ a.degree ∷ []
+
+abbrev pub numbers_of_refused : Refused → List ℕ
+numbers_of_refused r = number_of r.refusal.condition ∷ r.refusal.place ∷ r.comparisons ∷ r.degree ∷ []
 
 abbrev pub count_numbers : CountAnswer → List ℕ
 count_numbers a = a.number ∷ a.accepted ∷ a.malformed ∷ a.unbound ∷ []

@@ -11,9 +11,10 @@ ghost use Rattle.printing.specs.Page.{print_answer};
 ghost use Rattle.counting.specs.Counts.{count_answer};
 ghost use Rattle.explaining.specs.Explain.{explain_file};
 ghost use Rattle.sets.specs.Sets.{check_set};
-ghost use Rattle.exports.specs.Numbers.{result_numbers, term_numbers, file_numbers, check_numbers, count_numbers, set_numbers, none_of, Given, Explains};
+ghost use Rattle.exports.specs.Numbers.{result_numbers, term_numbers, file_numbers, check_numbers, numbers_of_refused, count_numbers, set_numbers, none_of, Given, Explains};
 
-use code::refusal::Refusal;
+use checker::Refused;
+use code::refusal::{Condition, Refusal};
 
 // Number, place and what was found: a degree or a length, 0 for a refusal.
 fn numbers(answer: Result<usize, Refusal>) -> [u64; 3]
@@ -95,22 +96,27 @@ pub extern "C" fn bijterne_count_strings(length: usize, answer: &mut [u64; 4])
     };
 }
 
+// Of a refused file: number, place, comparisons completed, degree.
+fn refused_numbers(refused: Refused) -> [u64; 4]
+    ensures { result ≡ numbers_of_refused refused }
+{
+    [
+        u64::from(u32::from(refused.refusal.condition)),
+        refused.refusal.place as u64,
+        refused.comparisons as u64,
+        refused.degree as u64,
+    ]
+}
+
 // Number, place, comparisons completed, degree.
 #[unsafe(no_mangle)]
 pub extern "C" fn bijterne_check(s: &[u8], answer: &mut [u64; 4])
     ensures { answer.new ≡ check_numbers (check_file s.now) }
 {
-    let a = checker::check(s);
-    let number = a.number;
-    let place = a.place;
-    let comparisons = a.comparisons;
-    let degree = a.degree;
-    *answer = [
-        number as u64,
-        place as u64,
-        comparisons as u64,
-        degree as u64,
-    ];
+    *answer = match checker::check(s) {
+        Ok(checked) => [0, 0, checked.comparisons as u64, checked.degree as u64],
+        Err(refused) => refused_numbers(refused),
+    };
 }
 
 // The refused file's number, from 0, with its own number, place, comparisons and degree; or how many files, 0, 0, the comparisons in all, 0.
@@ -118,19 +124,19 @@ pub extern "C" fn bijterne_check(s: &[u8], answer: &mut [u64; 4])
 pub extern "C" fn bijterne_check_set(s: &[u8], answer: &mut [u64; 5])
     ensures { answer.new ≡ set_numbers (check_set s.now) }
 {
-    let a = sets::check_set(s);
-    let file = a.file;
-    let number = a.number;
-    let place = a.place;
-    let comparisons = a.comparisons;
-    let degree = a.degree;
-    *answer = [
-        file as u64,
-        number as u64,
-        place as u64,
-        comparisons as u64,
-        degree as u64,
-    ];
+    *answer = match sets::check_set(s) {
+        Ok(checked) => [checked.files as u64, 0, 0, checked.comparisons as u64, 0],
+        Err(named) => {
+            let refused = refused_numbers(named.refused);
+            [
+                named.file as u64,
+                refused[0],
+                refused[1],
+                refused[2],
+                refused[3],
+            ]
+        }
+    };
 }
 
 // Number, place, comparisons completed, degree; then for 12 the lengths of the two bodies and the first difference, for 10 side, step and
@@ -144,22 +150,29 @@ pub extern "C" fn bijterne_explain(
 )
     ensures { Explains (explain_file s.now left.old right.old) answer.new left.new right.new }
 {
-    let a = explaining::explain(s, left, right);
-    let number = a.number;
-    let place = a.place;
-    let comparisons = a.comparisons;
-    let degree = a.degree;
-    let first = a.first;
-    let second = a.second;
-    let third = a.third;
-    *answer = [
-        number as u64,
-        place as u64,
-        comparisons as u64,
-        degree as u64,
-        first as u64,
-        second as u64,
-        third as u64,
-        0,
-    ];
+    *answer = match explaining::explain(s, left, right) {
+        Ok(checked) => [
+            0,
+            0,
+            checked.comparisons as u64,
+            checked.degree as u64,
+            0,
+            0,
+            0,
+            0,
+        ],
+        Err(explained) => {
+            let (first, second, third) = explained.cause.numbers();
+            [
+                u64::from(u32::from(Condition::from(explained.cause))),
+                explained.place as u64,
+                explained.comparisons as u64,
+                explained.degree as u64,
+                first as u64,
+                second as u64,
+                third as u64,
+                0,
+            ]
+        }
+    };
 }

@@ -10,8 +10,10 @@ use Rattle.code.specs.Limits.{longest_term}
 use Rattle.code.specs.Code.{Bytes, encode}
 use Rattle.code.proofs.RoundTrip.{length_encode}
 use Rattle.explaining.specs.Explain.{Explanation, explain_file}
-use Rattle.explaining.specs.Clauses.{explained_says}
+use Rattle.std.proofs.Common.{Err}
+use Rattle.explaining.specs.Clauses.{cause_number, explained_says}
 use Rattle.explaining.specs.Claims.{BodiesTold}
+use Rattle.explaining.specs.declared.Cause.TheVariants.{BodiesDiffer}
 use Rattle.explaining.specs.declared.Explained.{Explained}
 use Rattle.explaining.proofs.Promised.{promised}
 use Rattle.program.specs.Clauses.{BodiesAt}
@@ -32,5 +34,5 @@ module _ (s left right : List ℕ) (l : length left ≡ longest_term) (r : lengt
         in_right = omega (arith, d.difference_is, d.right_length, d.differing.in_right);
       }
 
-  pub told_bodies : (e : Explained) {left' right' : List ℕ} → Bytes s → explained_says e left' right' ≡ explain_file s left right → e.number ≡ 12 → BodiesAt left' e.first right' e.second e.third
-  told_bodies e b q n = bodies_at (rw (← q) at (promised.bodies s left right b (ap (λ (x : Explanation). x.answer.number) (sym q) ∙ n)))
+  pub told_bodies : (e : Explained) {n k d : ℕ} {left' right' : List ℕ} → Bytes s → explained_says (Err e) left' right' ≡ explain_file s left right → e.cause ≡ BodiesDiffer n k d → BodiesAt left' n right' k d
+  told_bodies e b q c = rw c at (bodies_at (rw (← q) at (promised.bodies s left right b (ap (λ (x : Explanation). x.answer.number) (sym q) ∙ ap cause_number c))))

@@ -10,12 +10,10 @@ ghost use Rattle.program.specs.Clauses.{whole_room, place_room, side_room, condi
 use crate::push_answer;
 use arrayvec::ArrayString;
 use bodies::Reason;
-use code::numbers::{
-    ACCEPTED, BEYOND_SCOPE, BODIES_DIFFER, CUT_SHORT, LONGEST_TERM, NO_GROUP_LEFT, NO_TYPE,
-    NOT_ONE_TERM, OUTGROWN, STEP_NOT_POSSIBLE, STILL_WAITING, TOO_LONG, TOO_MANY_IN_SCOPE,
-    WRONG_FIELD,
-};
-use explaining::Explained;
+use code::numbers::{ACCEPTED, LONGEST_TERM};
+use code::refusal::Condition;
+use compare::Side;
+use explaining::{Cause, Explained};
 use printing::{CELLS_IN_LINE, LINE_LENGTH, LONGEST_PAGE};
 use std::str;
 use streams::push_number;
@@ -68,42 +66,33 @@ fn push_waiting(text: &mut Text, place: usize, waiting: usize)
 }
 
 // 10: why a step is not possible.
-fn reason_words(condition: usize) -> &'static str
+fn reason_words(reason: Reason) -> &'static str
     ensures { length result.now ≤ condition_room }
 {
-    if condition == usize::from(Reason::UnknownKind) {
-        return "its kind is not 1, 2 or 3.\n";
+    match reason {
+        Reason::UnknownKind => "its kind is not 1, 2 or 3.\n",
+        Reason::PastEnd => "its place is past the end of the body, as the steps before left it.\n",
+        Reason::WrongSymbol => {
+            "the symbol at its place is not one that its kind takes: a variable (kind 1) or an applicator (kinds 2 and 3).\n"
+        }
+        Reason::NoPartner => {
+            "the applicator at its place, or the abstractor of the variable there, has no partner.\n"
+        }
+        Reason::StillUsed => "the variable of the couple at its place is still used.\n",
     }
-    if condition == usize::from(Reason::PastEnd) {
-        return "its place is past the end of the body, as the steps before left it.\n";
-    }
-    if condition == usize::from(Reason::WrongSymbol) {
-        return "the symbol at its place is not one that its kind takes: a variable (kind 1) or an applicator (kinds 2 and 3).\n";
-    }
-    if condition == usize::from(Reason::NoPartner) {
-        return "the applicator at its place, or the abstractor of the variable there, has no partner.\n";
-    }
-    "the variable of the couple at its place is still used.\n"
 }
 
-fn side_words(side: usize) -> &'static str
+fn side_words(side: Side) -> &'static str
     ensures { length result.now ≤ side_room }
 {
-    if side == 0 {
-        return "of the left list of group ";
+    match side {
+        Side::Left => "of the left list of group ",
+        Side::Right => "of the right list of group ",
     }
-    "of the right list of group "
 }
 
 // 10: the step that is not possible.
-fn push_step(
-    text: &mut Text,
-    place: usize,
-    group: usize,
-    side: usize,
-    step: usize,
-    condition: usize,
-)
+fn push_step(text: &mut Text, place: usize, group: usize, side: Side, step: usize, reason: Reason)
     requires { HasRoom text.old sentence_room }
     ensures { Added sentence_room text.old text.new }
 {
@@ -112,7 +101,7 @@ fn push_step(
     text.push_str(side_words(side));
     push_number(text, group, ',');
     text.push_str(" both counted from 0, is not possible: ");
-    text.push_str(reason_words(condition));
+    text.push_str(reason_words(reason));
 }
 
 // 12: where two bodies first differ.
@@ -132,57 +121,58 @@ fn push_difference(text: &mut Text, place: usize, group: usize, difference: usiz
     text.push_str(" both counted from 0.\n");
 }
 
-// Every number that has nothing but its place.
-fn push_ground(text: &mut Text, number: u32, place: usize)
+// Every condition that has nothing but its place.
+fn push_ground(text: &mut Text, condition: Condition, place: usize)
     requires { HasRoom text.old sentence_room }
     ensures { Added sentence_room text.old text.new }
 {
-    match number {
-        ACCEPTED => text.push_str("The file is accepted: its term is correct.\n"),
-        CUT_SHORT => push_at(
+    match condition {
+        Condition::CutShort => push_at(
             text,
             place,
             OF_FILE,
             "a field is due, and the file ends before that field does.\n",
         ),
-        WRONG_FIELD => push_at(
+        Condition::WrongField => push_at(
             text,
             place,
             OF_FILE,
             "the tag is not the one due (1, then 2 and 3 in turn), or the steps are not a multiple of 3 bytes.\n",
         ),
-        NOT_ONE_TERM => push_at(
+        Condition::NotOneTerm => push_at(
             text,
             place,
             OF_TERM,
             "its field ends too early, or goes on though the term has ended.\n",
         ),
-        TOO_LONG => text.push_str("The file has over 65,535 bytes, or its term over 4,096.\n"),
-        BEYOND_SCOPE => push_at(
+        Condition::TooLong => text.push_str(
+            "The file has over 65,535 bytes, or its term over 4,096.\n",
+        ),
+        Condition::BeyondScope => push_at(
             text,
             place,
             OF_TERM,
             "the index is beyond its scope: fewer abstractors are in scope there.\n",
         ),
-        TOO_MANY_IN_SCOPE => push_at(
+        Condition::TooManyInScope => push_at(
             text,
             place,
             OF_TERM,
             "an abstractor is one too many: 253 are in scope there already.\n",
         ),
-        NO_TYPE => push_at(
+        Condition::NoType => push_at(
             text,
             place,
             OF_TERM,
             "the applicator's K is taken by an abstractor, but ends in tau and so has no type.\n",
         ),
-        NO_GROUP_LEFT => push_at(
+        Condition::NoGroupLeft => push_at(
             text,
             place,
             OF_TERM,
             "the applicator is due for a comparison, but no group is left.\n",
         ),
-        OUTGROWN => push_at(
+        Condition::Outgrown => push_at(
             text,
             place,
             OF_TERM,
@@ -282,16 +272,15 @@ fn push_sentence(text: &mut Text, e: Explained)
     requires { HasRoom text.old sentence_room }
     ensures { Added sentence_room text.old text.new }
 {
-    let number = e.number;
     let place = e.place;
     let group = e.comparisons;
-    let first = e.first;
-    let third = e.third;
-    match number {
-        STILL_WAITING => push_waiting(text, place, first),
-        STEP_NOT_POSSIBLE => push_step(text, place, group, first, e.second, third),
-        BODIES_DIFFER => push_difference(text, place, group, third),
-        _ => push_ground(text, number, place),
+    match e.cause {
+        Cause::StillWaiting { waiting } => push_waiting(text, place, waiting),
+        Cause::StepNotPossible { side, step, reason } => {
+            push_step(text, place, group, side, step, reason)
+        }
+        Cause::BodiesDiffer { difference, .. } => push_difference(text, place, group, difference),
+        Cause::Other(condition) => push_ground(text, condition, place),
     }
 }
 
@@ -302,11 +291,23 @@ pub fn explain(s: &[u8], text: &mut Text)
 {
     let mut left: [u8; LONGEST_TERM] = [0; LONGEST_TERM];
     let mut right: [u8; LONGEST_TERM] = [0; LONGEST_TERM];
-    let e = explaining::explain(s, &mut left, &mut right);
-    let number = e.number;
+    let e = match explaining::explain(s, &mut left, &mut right) {
+        Ok(checked) => {
+            push_answer(text, ACCEPTED, 0, checked.comparisons, checked.degree);
+            text.push_str("The file is accepted: its term is correct.\n");
+            return;
+        }
+        Err(e) => e,
+    };
+    let number = u32::from(Condition::from(e.cause));
     push_answer(text, number, e.place, e.comparisons, e.degree);
     push_sentence(text, e);
-    if number == BODIES_DIFFER {
-        push_bodies(text, &left, e.first, &right, e.second, e.third);
+    if let Cause::BodiesDiffer {
+        left: n,
+        right: k,
+        difference,
+    } = e.cause
+    {
+        push_bodies(text, &left, n, &right, k, difference);
     }
 }

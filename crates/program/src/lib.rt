@@ -11,6 +11,8 @@ ghost use Rattle.arrayvec.specs.ArrayString.{array_string_len};
 ghost use Rattle.program.specs.Clauses.{answer_room, Added};
 
 use arrayvec::ArrayString;
+use checker::Refused;
+use code::numbers::ACCEPTED;
 use code::refusal::Refusal;
 use counting::{Counts, LONGEST_COUNTED};
 use explanation::Text;
@@ -92,6 +94,20 @@ fn push_answer<const N: usize>(
     push_number(line, degree, '\n');
 }
 
+// Those of a refused file.
+fn push_refused<const N: usize>(line: &mut ArrayString<N>, refused: Refused)
+    requires { array_string_len line.old + answer_room ≤ N }
+    ensures { Added answer_room line.old line.new }
+{
+    push_answer(
+        line,
+        u32::from(refused.refusal.condition),
+        refused.refusal.place,
+        refused.comparisons,
+        refused.degree,
+    );
+}
+
 // `bijterne`: checks a file and writes the four numbers of its answer. The exit status is 0 if they were written, whatever they say.
 pub fn bijterne_run<R: Input + Print + Eprint>(rt: &R) -> ExitCode {
     status(
@@ -137,9 +153,11 @@ pub fn counts_run<R: Print + Eprint>(rt: &R) -> ExitCode {
 fn answer_file<R: Read, W: Write>(input: &mut R, output: &mut W) -> Result<(), Failure> {
     let mut buffer = [0u8; INPUT_ROOM];
     let n = get(input, &mut buffer)?;
-    let a = checker::check(&buffer[..n]);
     let mut line: ArrayString<LINES_ROOM> = ArrayString::new();
-    push_answer(&mut line, a.number, a.place, a.comparisons, a.degree);
+    match checker::check(&buffer[..n]) {
+        Ok(checked) => push_answer(&mut line, ACCEPTED, 0, checked.comparisons, checked.degree),
+        Err(refused) => push_refused(&mut line, refused),
+    }
     put(output, line.as_bytes())
 }
 
@@ -154,10 +172,17 @@ fn explain_file<R: Read, W: Write>(input: &mut R, output: &mut W) -> Result<(), 
 fn answer_set<R: Read, W: Write>(input: &mut R, output: &mut W) -> Result<(), Failure> {
     let mut buffer = [0u8; INPUT_ROOM];
     let n = get(input, &mut buffer)?;
-    let a = sets::check_set(&buffer[..n]);
     let mut line: ArrayString<LINES_ROOM> = ArrayString::new();
-    push_number(&mut line, a.file, ' ');
-    push_answer(&mut line, a.number, a.place, a.comparisons, a.degree);
+    match sets::check_set(&buffer[..n]) {
+        Ok(checked) => {
+            push_number(&mut line, checked.files, ' ');
+            push_answer(&mut line, ACCEPTED, 0, checked.comparisons, 0);
+        }
+        Err(named) => {
+            push_number(&mut line, named.file, ' ');
+            push_refused(&mut line, named.refused);
+        }
+    }
     put(output, line.as_bytes())
 }
 

@@ -18,8 +18,7 @@ use Rattle.fields.proofs.Written.{field_bytes}
 use Rattle.files.specs.Check.{check_file}
 use Rattle.files.specs.Claims.{Accepted}
 use Rattle.files.proofs.Answers.{says as file_says, bytes_take}
-use Rattle.sets.specs.declared.SetAnswer.{SetAnswer}
-use Rattle.sets.specs.Sets.{longest_set, refused_file, accepted_set, check_files, check_from, check_set}
+use Rattle.sets.specs.Sets.{SetAnswer, longest_set, refused_file, accepted_set, check_files, check_from, check_set}
 use Rattle.sets.specs.Claims.{write_set, HoldsFiles, FileAccepted, FileRefused, AllAccepted, none, next, SetAccepted, SetRefused, over_long, no_set, one_file, AcceptedSets, SetChecked}
 use Rattle.sets.proofs.Heads.{SetView, over, cut, files, set_view, holding}
 

@@ -12,10 +12,13 @@ use Rattle.fields.specs.Fields.{Fault, End}
 use Rattle.fields.specs.Fields.{body_end, body_at, field_at, Whole, Sequence, broken, sequence, first_then}
 use Rattle.fields.proofs.Laws.{Found, done, stop, more}
 use Rattle.files.specs.Check.{check_file}
-use Rattle.checker.specs.Answer.{CheckedAs}
-use Rattle.checker.specs.declared.CheckAnswer.{CheckAnswer}
+use Rattle.std.proofs.Common.{Ok, Err}
+use Rattle.code.proofs.Refusals.{refusal_number}
+use Rattle.checker.specs.Answer.{CheckAnswer, check_says, CheckedAs}
+use Rattle.checker.specs.declared.Checked.{Checked}
+use Rattle.checker.specs.declared.Refused.{Refused}
 use Rattle.sets.specs.Sets.{longest_set, or_not_a_set, file_end, files_from, read_set, refused_set, accepted_set, check_files, check_from, check_set}
-use Rattle.sets.specs.Clauses.{heads_of, WholeFrom}
+use Rattle.sets.specs.Clauses.{set_says, heads_of, WholeFrom}
 use Rattle.sets.proofs.Heads.{end_not_fault, file_found, file_ended, files_found, files_are, body_length}
 
 -- THE HEADS
@@ -112,13 +115,19 @@ module _ {s : List ℕ} {at : ℕ} (h : Here s at) {f : List ℕ} (f_is : f ≡ 
     same : CheckedAs r (check_file (body_at s at))
     same = subst (λ (g : List ℕ). CheckedAs r (check_file g)) f_is checked
 
-    pub file_refused : (r.number ≡ 0 → ⊥) → record { file = i; number = r.number; place = r.place; comparisons = r.comparisons; degree = r.degree } ≡ check_from i c (files_from s at)
+    refused : (r.number ≡ 0 → ⊥) → record { file = i; number = r.number; place = r.place; comparisons = r.comparisons; degree = r.degree } ≡ check_from i c (files_from s at)
     unfolding check_from check_files
-    file_refused n = rw (h.all, ne_eqb _ _ (λ e. n (same.number_is ∙ e)), same.number_is, same.place_is, same.comparisons_is, same.degree_is) refl
+    refused n = rw (h.all, ne_eqb _ _ (λ e. n (same.number_is ∙ e)), same.number_is, same.place_is, same.comparisons_is, same.degree_is) refl
 
-    pub file_accepted : r.number ≡ 0 → check_from (i + 1) (c + r.comparisons) (files_from s (at + (3 + length f))) ≡ check_from i c (files_from s at)
+    accepted : r.number ≡ 0 → check_from (i + 1) (c + r.comparisons) (files_from s (at + (3 + length f))) ≡ check_from i c (files_from s at)
     unfolding check_from check_files
-    file_accepted n = rw (next_place, h.rest.are, h.all, eq-eqb _ _ (sym same.number_is ∙ n), same.comparisons_is) refl
+    accepted n = rw (next_place, h.rest.are, h.all, eq-eqb _ _ (sym same.number_is ∙ n), same.comparisons_is) refl
+
+  pub file_refused : (x : Refused) → CheckedAs (check_says (Err x)) (check_file f) → (i c : ℕ) → set_says (Err (record { file = i; refused = x })) ≡ check_from i c (files_from s at)
+  file_refused x a i c = refused a i c (λ z. omega (arith, refusal_number x.refusal.condition))
+
+  pub file_accepted : (x : Checked) → CheckedAs (check_says (Ok x)) (check_file f) → (i c : ℕ) → check_from (i + 1) (c + x.comparisons) (files_from s (at + (3 + length f))) ≡ check_from i c (files_from s at)
+  file_accepted x a i c = accepted a i c refl
 
 pub files_end : (s : List ℕ) {at : ℕ} → length s ≤ at → (i c : ℕ) → accepted_set i c ≡ check_from i c (files_from s at)
 unfolding check_from check_files

@@ -7,8 +7,7 @@ use Rattle.code.specs.Code.{Bytes}
 use Rattle.fields.specs.Files.{write_field, InBytes}
 use Rattle.files.specs.Check.{check_file}
 use Rattle.files.specs.Claims.{Accepted, Refused}
-use Rattle.sets.specs.declared.SetAnswer.{SetAnswer}
-use Rattle.sets.specs.Sets.{longest_set, file_tag, refused_file, refused_set, accepted_set, check_set}
+use Rattle.sets.specs.Sets.{SetAnswer, longest_set, file_tag, refused_file, refused_set, accepted_set, check_set}
 
 -- A set as it is written.
 unfoldable pub write_set : List (List ℕ) → List ℕ

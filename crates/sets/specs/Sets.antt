@@ -5,7 +5,14 @@ use Rattle.code.specs.Refusals.{accepted, too_long, not_a_set}
 use Rattle.fields.specs.Fields.{Field, Fault, End}
 use Rattle.fields.specs.Fields.{field_at, body_at, Sequence, broken, sequence, sequence_from}
 use Rattle.files.specs.Check.{CheckAnswer, check_file}
-use Rattle.sets.specs.declared.SetAnswer.{SetAnswer}
+
+-- The refused file's number, from 0, with its own number, place, comparisons and degree; or how many files, 0, 0, the comparisons in all, 0.
+pub record SetAnswer : Type 0 where
+  pub file : ℕ
+  pub number : ℕ
+  pub place : ℕ
+  pub comparisons : ℕ
+  pub degree : ℕ
 
 -- '65,535 bytes in all', heads included.
 abbrev pub longest_set : ℕ

@@ -3,10 +3,10 @@
 
 ghost use Rattle.std.specs.Prelude.{◌≡◌, length};
 ghost use Rattle.sets.specs.Sets.{files_from, read_set, check_from};
-ghost use Rattle.sets.specs.Clauses.{heads_say, heads_of, WholeFrom};
-ghost use Rattle.sets.specs.Claims.{AcceptedSets, SetChecked};
+ghost use Rattle.sets.specs.Clauses.{set_says, own_refusal, heads_say, heads_of, WholeFrom};
+ghost use Rattle.sets.specs.Claims.{AcceptedSets, SetChecked as CheckedSet};
 
-use code::numbers::ACCEPTED;
+use checker::Refused;
 use code::refusal::{Condition, Refusal};
 
 // The longest set, heads included.
@@ -14,14 +14,30 @@ pub const LONGEST_SET: usize = 65535;
 
 const FILE_TAG: u8 = 5;
 
-// The refused file's number, from 0, with its own number, place, comparisons and degree; or how many files, 0, 0, the comparisons in all, 0.
-#[derive(Drop)]
-pub struct SetAnswer {
-    pub file: usize,
-    pub number: u32,
-    pub place: usize,
+// An accepted set: how many files, and the comparisons in all.
+#[derive(Clone, Copy)]
+pub struct SetChecked {
+    pub files: usize,
     pub comparisons: usize,
-    pub degree: usize,
+}
+
+// A refused set: the number of the refused file, from 0, and its own refusal; or 0 and that of the set.
+#[derive(Clone, Copy)]
+pub struct SetRefused {
+    pub file: usize,
+    pub refused: Refused,
+}
+
+// Of the set.
+impl From<Refusal> for SetRefused {
+    ghost from_gives = { λ refusal refused. refused ≡ own_refusal refusal };
+
+    fn from(refusal: Refusal) -> SetRefused {
+        SetRefused {
+            file: 0,
+            refused: Refused::from(refusal),
+        }
+    }
 }
 
 // The set's length and all its heads.
@@ -46,53 +62,33 @@ fn read_heads(s: &[u8]) -> Result<(), Refusal>
 
 // The files one after the other, up to the first that is refused.
 #[tactic(auto, using(crate::proofs::Passes::here, crate::proofs::Passes::next_place, crate::proofs::Passes::file_refused, crate::proofs::Passes::file_accepted, crate::proofs::Passes::files_end, crate::proofs::Answers::comparisons_fit))]
-fn check_files(s: &[u8]) -> SetAnswer
+fn check_files(s: &[u8]) -> Result<SetChecked, SetRefused>
     requires { WholeFrom s.now 0 }
-    ensures { result ≡ check_from 0 0 (files_from s.now 0) }
+    ensures { set_says result ≡ check_from 0 0 (files_from s.now 0) }
 {
     let mut at: usize = 0;
-    let mut file: usize = 0;
+    let mut files: usize = 0;
     let mut comparisons: usize = 0;
+    // Kept: no counted index, since each turn goes on by the length of the field that it reads.
     while at < s.len() {
         let body = fields::body_at(s, at);
-        let answer = checker::check(body);
-        let number = answer.number;
-        if number != ACCEPTED {
-            return SetAnswer {
-                file,
-                number,
-                place: answer.place,
-                comparisons: answer.comparisons,
-                degree: answer.degree,
-            };
-        }
+        let checked = checker::check(body).map_err(|refused| SetRefused {
+            file: files,
+            refused,
+        })?;
         at += 3 + body.len();
-        file += 1;
-        comparisons += answer.comparisons;
+        files += 1;
+        comparisons += checked.comparisons;
     }
-    SetAnswer {
-        file,
-        number: ACCEPTED,
-        place: 0,
-        comparisons,
-        degree: 0,
-    }
+    Ok(SetChecked { files, comparisons })
 }
 
 // Checks a set.
-pub fn check_set(s: &[u8]) -> SetAnswer
-    ensures { SetChecked s.now result }
+pub fn check_set(s: &[u8]) -> Result<SetChecked, SetRefused>
+    ensures { CheckedSet s.now (set_says result) }
 {
-    match read_heads(s) {
-        Err(refusal) => SetAnswer {
-            file: 0,
-            number: u32::from(refusal.condition),
-            place: refusal.place,
-            comparisons: 0,
-            degree: 0,
-        },
-        Ok(()) => check_files(s),
-    }
+    read_heads(s)?;
+    check_files(s)
 }
 
 // Which sets are accepted (specs/Claims.antt).

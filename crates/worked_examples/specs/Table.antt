@@ -9,8 +9,7 @@ use Rattle.files.specs.Check.{CheckAnswer, check_file_by, check_file}
 use Rattle.calls.specs.Answers.{Written, nothing, answer, type_answer, step_answer}
 use Rattle.printing.specs.Page.{print_answer}
 use Rattle.explaining.specs.Explain.{Explanation, explain_file}
-use Rattle.sets.specs.declared.SetAnswer.{SetAnswer}
-use Rattle.sets.specs.Sets.{check_set}
+use Rattle.sets.specs.Sets.{SetAnswer, check_set}
 
 -- A call with what it is given: a term; a file; a set; a file, under a reading before a request; a file and two buffers; a term and a
 -- buffer; a term, a step's kind and place, and a buffer.

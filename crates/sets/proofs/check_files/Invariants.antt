@@ -10,7 +10,7 @@ use Rattle.sets.proofs.check_files.Given as goal
 
 abbrev pub invariant-loop-at : goal.invariant-loop-at
 invariant-loop-at l =
-    (l.at ≤ length l.s) × (l.file ≤ l.at) × (l.comparisons ≤ l.at) × WholeFrom l.s l.at × (check_from l.file l.comparisons (files_from l.s l.at) ≡ check_from 0 0 (files_from l.s 0))
+    (l.at ≤ length l.s) × (l.files ≤ l.at) × (l.comparisons ≤ l.at) × WholeFrom l.s l.at × (check_from l.files l.comparisons (files_from l.s l.at) ≡ check_from 0 0 (files_from l.s 0))
 
 abbrev pub decreases-loop-at : goal.decreases-loop-at
 decreases-loop-at l = length l.s - l.at

@@ -7,6 +7,6 @@ use Rattle.program.proofs.explanation.explain.Goals as goal
 
 pub push_bodies-requires : goal.push_bodies-requires
 push_bodies-requires c = record {
-  bodies = told_bodies c.args.s.now _ _ refl refl _ (λ i. (c.type_inv.s i).fits) c.explain-e.ensures c.if-number-eq-BODIES_DIFFER.true;
+  bodies = told_bodies c.args.s.now _ _ refl refl _ (λ i. (c.type_inv.s i).fits) c.in-Err.ensures c.in-BodiesDiffer.is;
   room = search rules;
 }
