@@ -3,7 +3,6 @@
 
 ghost use Rattle.std.specs.Prelude.{◌≡◌};
 ghost use Rattle.compare.specs.Sides.{Buffers};
-ghost use Rattle.compare.specs.Answers.{number_of_ground};
 ghost use Rattle.files.specs.File.{open_file};
 ghost use Rattle.walk.specs.Clauses.{walked_says};
 ghost use Rattle.checker.specs.Answer.{before_walk, stopped_in_walk, check_says, Checked as CheckedFile};
@@ -77,6 +76,7 @@ pub fn open_file(s: &[u8]) -> Result<Opened, Refusal>
 
 // Walks the term of an opened file, which ends at `end`, with the groups after it; then 13. What stops it is as `walk` has it: for 12 the two
 // bodies stand in the lent arrays.
+#[tactic(auto, using(crate::proofs::Checking::ends_inside, crate::proofs::Checking::groups_left_lem, crate::proofs::Checking::all_taken))]
 pub fn walk_file(
     s: &[u8],
     end: usize,
@@ -99,6 +99,7 @@ pub fn walk_file(
 }
 
 // Checks a file.
+#[tactic(auto, using(crate::proofs::Checking::opening, crate::proofs::Checking::check_refused, crate::proofs::Checking::check_passed, crate::proofs::Checking::check_stopped))]
 pub fn check(s: &[u8]) -> Result<Checked, Refused>
     ensures { CheckedFile s.now (check_says result) }
 {

@@ -135,6 +135,7 @@ fn deliver(
 
 // Checks a file, and says what stopped it. For 12 the bodies as reached are written to the starts of the buffers, or, where either is too
 // short, the answer is 14 and neither is; at every other answer both keep every byte.
+#[tactic(auto, using(checker::proofs::Checking::opening, crate::proofs::Telling::told_refused, crate::proofs::Telling::told_passed, crate::proofs::Telling::two_bodies))]
 pub fn explain(s: &[u8], left: &mut [u8], right: &mut [u8]) -> Result<Checked, Explained>
     ensures { explained_says result left.new right.new ≡ explain_file s.now left.old right.old }
 {

@@ -3,19 +3,17 @@
 use Prim.Native.Nat.{ℕ}
 use mathlib.Core.Path.{◌≡◌, refl, ap}
 use mathlib.Core.List.{List, [], ◌∷◌}
-use lib.ListN.{length}
 use Rattle.std.specs.Prelude as prelude
 use Rattle.std.proofs.Common.{Result, Ok, Err, Some, None}
 use Rattle.std.specs.Result.{result_transpose}
 use Rattle.code.specs.declared.refusal.Refusal.{Refusal}
 use Rattle.examine.specs.Inspect.{TermAnswer, term_says}
-use Rattle.files.specs.File.{FileAnswer}
 use Rattle.calls.specs.Answers.{Written, type_says, step_says}
 use Rattle.explaining.specs.Explain.{Explanation}
 use Rattle.checker.specs.declared.Checked.{Checked}
 use Rattle.explaining.specs.Clauses.{cause_number, first_of, second_of, third_of, explained_says}
 use Rattle.explaining.specs.declared.Explained.{Explained}
-use Rattle.exports.specs.Numbers.{result_numbers, term_numbers, file_numbers, none_of, Given, Explains}
+use Rattle.exports.specs.Numbers.{result_numbers, term_numbers, none_of, Given, Explains}
 
 pub given_term : (r : Result ℕ Refusal) {a : TermAnswer} → term_says r ≡ a → result_numbers r ≡ term_numbers a
 unfolding term_says

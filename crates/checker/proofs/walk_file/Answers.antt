@@ -1,11 +1,8 @@
 -- `checker::walk_file` meets its contract.
 -- Assumes nothing.
 use Rattle.std.proofs.lemmas.Result.{err_from_is_err_and}
-use Rattle.checker.proofs.Checking.{ends_inside, walking, stopped_early, groups_left_lem, all_taken}
+use Rattle.checker.proofs.Checking.{walking, stopped_early}
 use Rattle.checker.proofs.walk_file.Goals as goal
-
-pub term_part-part-requires : goal.term_part-part-requires
-term_part-part-requires c = ends_inside _ (λ i. (c.type_inv.s i).fits) c.requires.0
 
 pub walk_term-requires : goal.walk_term-requires
 walk_term-requires c = (rw c.term_part-part.ensures (walking _ (λ i. (c.type_inv.s i).fits) c.requires.0), c.requires.1)
@@ -14,9 +11,3 @@ pub returns-in_err-walked : goal.returns-in_err-walked
 returns-in_err-walked c =
     let p = err_from_is_err_and c.from_residual.result c.from_residual.ensures.1 in
     rw (p.1, p.2) (stopped_early _ (λ i. (c.type_inv.s i).fits) _ (rw c.term_part-part.ensures at c.in_err-walked.ensures.0), c.in_err-walked.ensures.1)
-
-pub returns-then-walked-s : goal.returns-then-walked-s
-returns-then-walked-s c = (groups_left_lem _ (λ i. (c.type_inv.s i).fits) (rw c.term_part-part.ensures at c.in_ok-walked.ensures.0) c.if-walked-s.true, c.in_ok-walked.ensures.1)
-
-pub returns : goal.returns
-returns c = (all_taken _ (λ i. (c.type_inv.s i).fits) (rw c.term_part-part.ensures at c.in_ok-walked.ensures.0) c.if-walked-s.false, c.in_ok-walked.ensures.1)
