@@ -26,6 +26,7 @@ pub struct GroupSpan {
 }
 
 // A step: its kind, and its place in the body.
+// Kept: the kind is a byte and no enum, since a file may hold any; what it names is told apart where a step is made.
 #[derive(Drop)]
 pub struct StepBytes {
     pub kind: u8,
@@ -137,7 +138,7 @@ pub fn body_at(s: &[u8], at: usize) -> &[u8]
     &s[at + 3..at + 3 + n]
 }
 
-// The bytes of the term, a part of the file: none where the end is that of a refused file, 0.
+// The bytes of the term, a part of the file, whose body ends at `end`: none where that is before its head ends.
 pub fn term_part(s: &[u8], end: usize) -> &[u8]
     requires { end ≤ length s.now }
     ensures { result.now ≡ term_bytes s.now end }
