@@ -90,6 +90,7 @@ fn step_accepted(s: &[u8], kind: u8, place: usize, out: &mut [u8]) -> Result<usi
     }
 }
 
+// Kept: the kind is a number, as C hands it over; steps::step_in_place refuses the others.
 // Applies one step to the term s, and writes the result to the start of `out`: its length.
 pub fn apply_step(s: &[u8], kind: u8, place: u16, out: &mut [u8]) -> Result<usize, Refusal>
     ensures { step_says result out.new ≡ step_answer s.now (record { kind = kind; place = place }) out.old }

@@ -21,6 +21,7 @@ pub struct Checked {
     pub degree: usize,
 }
 
+// Kept: no Option for the degree, since README and C promise 0 there, and each caller would make it of None again.
 // A refused file: why and where, the comparisons completed, and the degree of its term, which is 0 where it is refused before the walk.
 #[derive(Clone, Copy)]
 pub struct Refused {

@@ -66,6 +66,7 @@ pub fn count_strings(length: usize) -> Result<Counts, Condition>
     }
     let closed = terms_in(length, 0);
     let terms = terms_in(length, GREATEST_INDEX);
+    // Kept: `as`, since Rust has no From here; length is at most 7.
     let strings = 256u64.pow(length as u32);
     Ok(Counts {
         accepted: closed,

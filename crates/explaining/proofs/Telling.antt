@@ -45,8 +45,8 @@ use Rattle.checker.specs.Clauses.{OpenedAs, RunAs, run_passed, run_stopped, File
 use Rattle.files.proofs.Answers.{opens, closed}
 use Rattle.checker.specs.declared.Opened as code
 use Rattle.checker.proofs.Checking.{refused_is, opening, answer_of}
-use Rattle.explaining.specs.Explain.{difference, handed_both, told, explain_ground, explain_run, explain_opened, explain_file}
-use Rattle.explaining.specs.Clauses.{cause_number, first_of, second_of, third_of, explained_says, before_the_walk, TwoBodies, handed_says, Delivers}
+use Rattle.explaining.specs.Explain.{difference, handed_both, told, explain_ground, explain_run, explain_opened, explain_file, cause_number, first_of, second_of, third_of, explained_says, before_the_walk}
+use Rattle.explaining.specs.Clauses.{TwoBodies, handed_says, Delivers}
 use Rattle.explaining.specs.Claims.{Differing}
 use Rattle.explaining.specs.declared.Cause.{Cause}
 use Rattle.explaining.specs.declared.Cause.TheVariants as cause

@@ -1,11 +1,18 @@
 -- The explaining call (document 02, request (g)): what it answers of a file, and what it leaves in the two lent buffers.
 -- Assumes nothing.
-use Rattle.std.specs.Prelude.{ℕ, suc, cond, List, [], ◌∷◌, eqb, leb, length}
+use Rattle.std.specs.Prelude.{ℕ, Result, Ok, Err, suc, cond, List, [], ◌∷◌, eqb, leb, length}
 use Rattle.std.proofs.lemmas.List.Edits.{sets}
 use Rattle.calculus.specs.Steps.{latest}
-use Rattle.code.specs.Refusals.{buffer_too_short}
+use Rattle.code.specs.Refusals.{accepted, still_waiting, step_not_possible, bodies_differ, buffer_too_short, number_of}
+use Rattle.code.specs.declared.refusal.Refusal.{Refusal}
 use Rattle.code.specs.Code.{encode}
 use Rattle.verdict.specs.Verdict.{Ground, untyped, something_waits, no_group, step_refused, state_outgrown, type_outgrown, domain_outgrown, step_outgrown, different_bodies, not_reached, Run, passed, stopped, check_term, side_number, reason_number}
+use Rattle.bodies.specs.Reasons.{said}
+use Rattle.compare.specs.Answers.{side_said}
+use Rattle.checker.specs.declared.Checked.{Checked}
+use Rattle.explaining.specs.declared.Cause.{Cause}
+use Rattle.explaining.specs.declared.Cause.TheVariants.{StillWaiting, StepNotPossible, BodiesDiffer, Other}
+use Rattle.explaining.specs.declared.Explained.{Explained}
 use Rattle.files.specs.File.{Opened, refused, opened, open_file}
 use Rattle.files.specs.Check.{CheckAnswer, groups_of, check_opened_by}
 
@@ -63,3 +70,38 @@ explain_opened left right (opened t e gs) = explain_run (check_opened_by latest 
 unfoldable pub explain_file : (s left right : List ℕ) → Explanation
 unfolding explain_opened open_file
 explain_file s left right = explain_opened left right (open_file s)
+
+-- What stopped the check, in numbers: its own, and three for what more is told.
+abbrev pub cause_number : Cause → ℕ
+cause_number (StillWaiting n) = still_waiting
+cause_number (StepNotPossible side n why) = step_not_possible
+cause_number (BodiesDiffer l r d) = bodies_differ
+cause_number (Other c) = number_of c
+
+abbrev pub first_of : Cause → ℕ
+first_of (StillWaiting n) = n
+first_of (StepNotPossible side n why) = side_number (side_said side)
+first_of (BodiesDiffer l r d) = l
+first_of (Other c) = 0
+
+abbrev pub second_of : Cause → ℕ
+second_of (StillWaiting n) = 0
+second_of (StepNotPossible side n why) = n
+second_of (BodiesDiffer l r d) = r
+second_of (Other c) = 0
+
+abbrev pub third_of : Cause → ℕ
+third_of (StillWaiting n) = 0
+third_of (StepNotPossible side n why) = reason_number (said why)
+third_of (BodiesDiffer l r d) = d
+third_of (Other c) = 0
+
+-- What each case of the code's answer says, with the buffers as they are left.
+abbrev pub explained_says : Result Checked Explained → (left right : List ℕ) → Explanation
+explained_says (Ok c) left right = told (record { number = accepted; place = 0; comparisons = c.comparisons; degree = c.degree }) left right 0 0 0
+explained_says (Err e) left right =
+    told (record { number = cause_number e.cause; place = e.place; comparisons = e.comparisons; degree = e.degree }) left right (first_of e.cause) (second_of e.cause) (third_of e.cause)
+
+-- A refusal before the walk.
+abbrev pub before_the_walk : Refusal → Explained
+before_the_walk r = record { cause = Other r.condition; place = r.place; comparisons = 0; degree = 0 }

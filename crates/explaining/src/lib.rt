@@ -4,8 +4,8 @@
 
 ghost use Rattle.std.specs.Prelude.{◌≡◌};
 ghost use Rattle.code.specs.Refusals.{number_of};
-ghost use Rattle.explaining.specs.Explain.{difference, explain_file};
-ghost use Rattle.explaining.specs.Clauses.{cause_number, first_of, second_of, third_of, before_the_walk, explained_says, TwoBodies, Delivers};
+ghost use Rattle.explaining.specs.Explain.{difference, explain_file, cause_number, first_of, second_of, third_of, before_the_walk, explained_says};
+ghost use Rattle.explaining.specs.Clauses.{TwoBodies, Delivers};
 ghost use Rattle.explaining.specs.Claims.{Differing, Promises};
 
 use bodies::Reason;
@@ -32,6 +32,7 @@ pub enum Cause {
         right: usize,
         difference: usize,
     },
+    // never 8, 10 or 12, of which more is told
     Other(Condition),
 }
 
@@ -71,6 +72,7 @@ impl From<Cause> for Condition {
     }
 }
 
+// Kept: the degree as in checker::Refused.
 // A refusal: why, the place, the comparisons completed, and the degree, as the check has them, or 14.
 #[derive(Clone, Copy, Debug, PartialEq, Eq)]
 pub struct Explained {

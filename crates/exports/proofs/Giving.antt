@@ -9,9 +9,8 @@ use Rattle.std.specs.Result.{result_transpose}
 use Rattle.code.specs.declared.refusal.Refusal.{Refusal}
 use Rattle.examine.specs.Inspect.{TermAnswer, term_says}
 use Rattle.calls.specs.Answers.{Written, type_says, step_says}
-use Rattle.explaining.specs.Explain.{Explanation}
+use Rattle.explaining.specs.Explain.{Explanation, cause_number, first_of, second_of, third_of, explained_says}
 use Rattle.checker.specs.declared.Checked.{Checked}
-use Rattle.explaining.specs.Clauses.{cause_number, first_of, second_of, third_of, explained_says}
 use Rattle.explaining.specs.declared.Explained.{Explained}
 use Rattle.exports.specs.Numbers.{result_numbers, term_numbers, none_of, Given, Explains}
 

@@ -16,6 +16,7 @@ ghost use Rattle.exports.specs.Numbers.{result_numbers, term_numbers, file_numbe
 use checker::Refused;
 use code::refusal::{Condition, Refusal};
 
+// Kept: `as u64` in all of these, since Rust has no From<usize> for u64 and C takes 64 bits; the numbers 0 are C's.
 // Number, place and what was found: a degree or a length, 0 for a refusal.
 fn numbers(answer: Result<usize, Refusal>) -> [u64; 3]
     ensures { result ≡ result_numbers answer }

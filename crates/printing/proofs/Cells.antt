@@ -13,8 +13,7 @@ use Rattle.calculus.specs.Terms.{Term, tau, var, app, abs, size, Closed, closed_
 use Rattle.code.specs.Code.{symbol, encode, Coded, coded_tau, coded_var, coded_app, coded_abs}
 use Rattle.code.specs.Scope.{scope}
 use Rattle.code.proofs.RoundTrip.{symbol_index}
-use Rattle.printing.specs.declared.Cell.{Cell}
-use Rattle.printing.specs.Page.{blank, digit_zero, letter_tau, letter_applicator, letter_abstractor, letter_cell, digit, index_cell, cells}
+use Rattle.printing.specs.Page.{Cell, blank, digit_zero, letter_tau, letter_applicator, letter_abstractor, letter_cell, digit, index_cell, cells}
 use Rattle.printing.specs.Clauses.{cell_of_symbol, cell_of, cells_of}
 
 -- ---- The cells of a term's bytes.

@@ -7,8 +7,7 @@ use mathlib.Core.List.{List, [], ◌∷◌, ◌++◌}
 use native.Mathlib.Omega.{arith}
 use lib.ListN.{length, get_or, take, drop}
 use borrow.Author.Tests.{ne_eqb}
-use Rattle.printing.specs.declared.Cell.{Cell}
-use Rattle.printing.specs.Page.{blank, line_feed, cells_in_line, line_length, letter_cell, columns, filled, lines, page_length}
+use Rattle.printing.specs.Page.{Cell, blank, line_feed, cells_in_line, line_length, letter_cell, columns, filled, lines, page_length}
 use Rattle.printing.proofs.Cells.{Shown, AllShown, no_cells, more}
 
 -- ---- One cell more: the line is full, or has room.

@@ -20,8 +20,7 @@ use Rattle.examine.proofs.Laws.{examining_holds}
 use Rattle.calls.specs.Answers.{Written, answer, handed}
 use Rattle.calls.proofs.Writing.{accepts, encodes}
 use Rattle.calls.proofs.Promised.{refusal_number}
-use Rattle.printing.specs.declared.Cell.{Cell}
-use Rattle.printing.specs.Page.{cells_in_line, line_length, longest_page, cells, columns, page, print_answer_of, print_answer}
+use Rattle.printing.specs.Page.{Cell, cells_in_line, line_length, longest_page, cells, columns, page, print_answer_of, print_answer}
 use Rattle.printing.specs.Claims.{InLines, Pages, Printed, term_refused, too_short, NotPrinted, Promises}
 use Rattle.printing.proofs.Cells.{shown_cells, cells_alike}
 use Rattle.printing.proofs.Lines.{page_feeds, page_cell, lines_alike}

@@ -2,10 +2,12 @@
 -- Assumes nothing.
 use Prim.Native.Nat.{ℕ, zero, suc, ◌+◌, ◌*◌, ◌-◌, ◌≤◌, ◌<◌}
 use mathlib.Core.Path.{◌≡◌, refl, ap, sym, ◌∙◌}
-use mathlib.Core.List.{List, [], ◌∷◌}
+use mathlib.Core.List.{List, [], ◌∷◌, append_assoc}
 use native.Mathlib.Omega.{arith}
-use lib.ListN.{length, get_or, drop, set, length-set, length-map, drop_of_length-le}
-use lib.Seq.{sets, drop-cons}
+use lib.ListN.{length, replicate, get_or, drop, set, length-map, drop_of_length-le}
+use lib.Seq.{sets, sets-eq, length-sets, drop-drop, drop-cons}
+use Rattle.std.proofs.lemmas.List.{length-replicate}
+use borrow.Rule.Slice.PartMut.{put_mid}
 use borrow.Author.Tests.{le-leb, lt-leb}
 use Rattle.calculus.specs.Terms.{Term, size}
 use Rattle.code.specs.Limits.{longest_term}
@@ -15,19 +17,20 @@ use Rattle.examine.specs.Inspect.{refused, examined}
 use Rattle.examine.specs.Claims.{WellFormed}
 use Rattle.calls.specs.Answers.{answer, handed, AcceptedTerm}
 use Rattle.calls.proofs.Writing.{accepts, encodes, whole_size}
-use Rattle.printing.specs.declared.Cell.{Cell}
-use Rattle.printing.specs.Page.{blank, line_feed, cells_in_line, letter_cell, cells, columns, filled, lines, page, page_length, print_answer_of, print_answer}
+use Rattle.printing.specs.Page.{Cell, blank, line_feed, cells_in_line, letter_cell, cells, columns, filled, lines, page, page_length, print_answer_of, print_answer}
 use Rattle.printing.specs.Clauses.{cell_of, cells_of, Onward, PutsCell}
 use Rattle.printing.proofs.Cells.{cells_of_bytes, length_cells}
 use Rattle.printing.proofs.Lines.{lines_full, lines_room, length_filled, length_page_lines, five}
 
+-- ---- A part that the library's methods have written.
+put_part : (s v : List ℕ) (at k : ℕ) → length v ≡ k → at + k ≤ length s → put_mid at k s v ≡ sets s at v
+put_part s v at k q l = rw (sets-eq v s at (omega arith), q, append_assoc, drop-drop) refl
+
 -- ---- Four columns.
-pub columns_stored : (c : Cell) (out : List ℕ) (at : ℕ) → set (set (set (set out at c.first) (at + 1) c.second) (at + 2) c.third) (at + 3) c.fourth ≡ sets out at (columns c [])
-columns_stored c out at =
-    let p : at + 1 ≡ suc at = omega arith in
-    let q : at + 2 ≡ suc (suc at) = omega arith in
-    let r : at + 3 ≡ suc (suc (suc at)) = omega arith in
-    rw (p, q, r)
+pub columns_stored : {c : Cell} (out : List ℕ) {v : List ℕ} (at : ℕ) {k : ℕ} → at + 4 ≤ length out → k ≡ 4 → v ≡ columns c [] → (put_mid at k out v ≡ sets out at (columns c [])) × (length (put_mid at k out v) ≡ length out)
+columns_stored {c} out {v} at {k} l q e =
+    let p : put_mid at k out v ≡ sets out at (columns c []) = rw (q, e) (put_part out (columns c []) at 4 refl l) in
+    (p, ap length p ∙ length-sets out at (columns c []))
 
 columns_then : (c : Cell) (out : List ℕ) (at : ℕ) (v : List ℕ) → sets (sets out at (columns c [])) (at + 4) v ≡ sets out at (columns c v)
 columns_then c out at v = let p : at + 4 ≡ suc (suc (suc (suc at))) = omega arith in rw p
@@ -61,34 +64,21 @@ module _ {c : Cell} {out out' : List ℕ} {at : ℕ} (same : length out' ≡ len
           let q : at + 1 ≡ suc at = omega arith in
           rw (lines_full c cs) (record { same_length = same; same_end = omega arith; same_result = rw (e, p, columns_then c (set out at line_feed) (at + 1) (lines 17 cs), q) })
 
--- ---- The last line.
-filled_more : (n : ℕ) → filled (suc n) ≡ columns (letter_cell blank) (filled n)
-unfolding filled
-filled_more n = refl
+-- ---- The last line: blanks, and then the line feed.
+blanks_then : (n : ℕ) (s : List ℕ) (at e : ℕ) → e ≡ at + n * 4 → set (sets s at (replicate (n * 4) blank)) e line_feed ≡ sets s at (filled n)
+unfolding filled letter_cell
+blanks_then zero s at e q = let p : e ≡ at = omega arith in rw p refl
+blanks_then (suc n) s at e q =
+    let p : suc n * 4 ≡ suc (suc (suc (suc (n * 4)))) = omega arith in
+    rw p (blanks_then n (set (set (set (set s at blank) (suc at) blank) (suc (suc at)) blank) (suc (suc (suc at))) blank) (suc (suc (suc (suc at)))) e (omega arith))
 
--- Of n₀ cells of blanks n are still to come.
-pub record Filling (out₀ : List ℕ) (at₀ n₀ : ℕ) (out : List ℕ) (at n : ℕ) : Type 0 where
-  pub onward : Onward out₀ at₀ (filled n₀) out at (filled n)
-
-module _ {out₀ out : List ℕ} {at₀ n₀ at n : ℕ} (w : Filling out₀ at₀ n₀ out at n) where
-  pub room_for_blanks : at₀ + length (filled n₀) ≤ length out₀ → at + n * 4 + 1 ≤ length out
-  room_for_blanks h = omega (arith, w.onward.same_end, w.onward.same_length, length_filled n)
-
-  pub fill_next : {out' : List ℕ} {c : Cell} → (n ≡ 0 → ⊥) → c ≡ letter_cell blank → out' ≡ sets out at (columns c []) → length out' ≡ length out → Filling out₀ at₀ n₀ out' (at + 4) (n - 1)
-  fill_next {out'} z q e l = go n w.onward z
-    where
-      go : (n : ℕ) → Onward out₀ at₀ (filled n₀) out at (filled n) → (n ≡ 0 → ⊥) → Filling out₀ at₀ n₀ out' (at + 4) (n - 1)
-      go zero f z = absurd (z refl)
-      go (suc n) f z =
-          let p : suc n - 1 ≡ n = omega arith in
-          rw p (record { onward = onward_then (rw (filled_more n) at f) (columns_onward {c = letter_cell blank} l (rw q at e) (filled n)) })
-
-  fill_last : Onward out₀ at₀ (filled n₀) out at (filled 0) → (set out at line_feed ≡ sets out₀ at₀ (filled n₀)) × (length (set out at line_feed) ≡ length out₀)
-  unfolding filled
-  fill_last f = (f.same_result, length-set out at line_feed ∙ f.same_length)
-
-  pub fill_end : n ≡ 0 → (set out at line_feed ≡ sets out₀ at₀ (filled n₀)) × (length (set out at line_feed) ≡ length out₀)
-  fill_end z = fill_last (rw z at w.onward)
+pub line_filled : (out : List ℕ) {v : List ℕ} (at n : ℕ) {e k m : ℕ} → at + length (filled n) ≤ length out → e ≡ at + 4 * n → k ≡ e - at → m ≡ k → v ≡ replicate m blank
+    → (set (put_mid at k out v) e line_feed ≡ sets out at (filled n)) × (length (set (put_mid at k out v) e line_feed) ≡ length out)
+line_filled out {v} at n {e} {k} {m} l x y z w =
+    let q : m ≡ n * 4 = omega arith in
+    let p : put_mid at k out v ≡ sets out at (replicate (n * 4) blank) = rw (w, q) (put_part out (replicate (n * 4) blank) at k (omega (arith, length-replicate {A = ℕ} (n * 4) blank)) (omega (arith, length_filled n))) in
+    let r : set (put_mid at k out v) e line_feed ≡ sets out at (filled n) = rw p (blanks_then n out at e (omega arith)) in
+    (r, ap length r ∙ length-sets out at (filled n))
 
 -- ---- The page of the bytes s, from byte i on.
 pub record Paging (s out₀ out : List ℕ) (at n i : ℕ) : Type 0 where

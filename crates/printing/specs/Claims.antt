@@ -9,8 +9,7 @@ use Rattle.code.specs.Code.{Bytes}
 use Rattle.code.specs.Scope.{scope}
 use Rattle.examine.specs.Inspect.{accepted, examined}
 use Rattle.calls.specs.Answers.{answer}
-use Rattle.printing.specs.declared.Cell.{Cell}
-use Rattle.printing.specs.Page.{line_feed, cells_in_line, line_length, longest_page, cells, columns, page, page_length, print_answer}
+use Rattle.printing.specs.Page.{Cell, line_feed, cells_in_line, line_length, longest_page, cells, columns, page, page_length, print_answer}
 
 -- p consists of lines of 72 columns and a line feed: its line feeds are the last bytes of the lines, and no others.
 pub record InLines (p : List ℕ) : Type 0 where

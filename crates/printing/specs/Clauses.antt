@@ -3,8 +3,7 @@
 use Rattle.std.specs.Prelude.{ℕ, ◌+◌, ◌≤◌, ◌≡◌, List, ◌∷◌, map, length}
 use Rattle.std.proofs.lemmas.List.Edits.{sets}
 use Rattle.code.specs.Code.{Symbol, symbol, symbol_tau, symbol_var, symbol_app, symbol_abs}
-use Rattle.printing.specs.declared.Cell.{Cell}
-use Rattle.printing.specs.Page.{cells_in_line, letter_tau, letter_applicator, letter_abstractor, letter_cell, index_cell, lines}
+use Rattle.printing.specs.Page.{Cell, cells_in_line, letter_tau, letter_applicator, letter_abstractor, letter_cell, index_cell, lines}
 
 -- The byte that marks a cell.
 abbrev pub mark : ℕ

@@ -4,7 +4,6 @@ use Rattle.std.specs.Prelude.{ℕ, zero, suc, ◌+◌, ◌*◌, ◌-◌, ◌/◌
 use Rattle.calculus.specs.Terms.{Term, tau, var, app, abs}
 use Rattle.examine.specs.Inspect.{Examined, refused, accepted, examined}
 use Rattle.calls.specs.Answers.{Written, answer, handed}
-use Rattle.printing.specs.declared.Cell.{Cell}
 
 -- Bytes of a page: blank, line feed, the digit 0, and the letters t, A and T.
 abbrev pub blank : ℕ
@@ -35,7 +34,14 @@ line_length = 73
 abbrev pub longest_page : ℕ
 longest_page = 16644
 
--- A cell of four columns, right-aligned: one letter,
+-- A cell of four columns.
+pub record Cell : Type 0 where
+  pub first : ℕ
+  pub second : ℕ
+  pub third : ℕ
+  pub fourth : ℕ
+
+-- Right-aligned in it: one letter,
 unfoldable pub letter_cell : ℕ → Cell
 letter_cell x = record { first = blank; second = blank; third = blank; fourth = x }
 

@@ -26,33 +26,23 @@ const LINE_FEED: u8 = 0x0a;
 
 const MARK: u8 = b'^';
 
-// Four columns.
-#[derive(Drop)]
-pub struct Cell {
-    pub first: u8,
-    pub second: u8,
-    pub third: u8,
-    pub fourth: u8,
-}
+// The four columns of a cell.
+type Columns = [u8; 4];
 
 // Where the next cell goes, and for how many more its line has room.
-#[derive(Drop)]
+#[derive(Clone, Copy)]
 struct Spot {
     at: usize,
     room: usize,
 }
 
-fn letter_cell(x: u8) -> Cell
-    ensures { result ≡ letter_cell x }
+fn letter_cell(x: u8) -> Columns
+    ensures { result ≡ columns (letter_cell x) [] }
 {
-    Cell {
-        first: b' ',
-        second: b' ',
-        third: b' ',
-        fourth: x,
-    }
+    [b' ', b' ', b' ', x]
 }
 
+// Kept: digits by hand and `as`: three places and a blank for each that is not used, which itoa's text would have to be padded to.
 fn digit_of(k: usize) -> u8
     ensures { result ≡ digit_zero + k % 10 }
 {
@@ -70,77 +60,61 @@ fn digit(k: usize, worth: usize) -> u8
     digit_of(k / worth)
 }
 
-fn index_cell(k: usize) -> Cell
-    ensures { result ≡ index_cell k }
+fn index_cell(k: usize) -> Columns
+    ensures { result ≡ columns (index_cell k) [] }
 {
-    Cell {
-        first: digit(k, 1000),
-        second: digit(k, 100),
-        third: digit(k, 10),
-        fourth: digit_of(k),
-    }
+    [digit(k, 1000), digit(k, 100), digit(k, 10), digit_of(k)]
 }
 
 // The cell of a byte.
-fn cell_of(b: u8) -> Cell
-    ensures { result ≡ cell_of b }
+fn cell_of(b: u8) -> Columns
+    ensures { result ≡ columns (cell_of b) [] }
 {
-    if b == 0xff {
-        return letter_cell(b'T');
+    match b {
+        0xff => letter_cell(b'T'),
+        0xfe => letter_cell(b'A'),
+        0 => letter_cell(b't'),
+        _ => index_cell(usize::from(b)),
     }
-    if b == 0xfe {
-        return letter_cell(b'A');
-    }
-    if b == 0 {
-        return letter_cell(b't');
-    }
-    index_cell(b as usize)
 }
 
-// Puts the four columns of a cell.
-fn put_columns(c: Cell, out: &mut [u8], at: usize)
+// Puts the four columns of the byte's cell.
+fn put_columns(b: u8, out: &mut [u8], at: usize)
     requires { at + 4 ≤ length out.old }
-    ensures { (out.new ≡ sets out.old at (columns c [])) × (length out.new ≡ length out.old) }
+    ensures { (out.new ≡ sets out.old at (columns (cell_of b) [])) × (length out.new ≡ length out.old) }
 {
-    out[at] = c.first;
-    out[at + 1] = c.second;
-    out[at + 2] = c.third;
-    out[at + 3] = c.fourth;
+    let cell = cell_of(b);
+    out[at..at + 4].copy_from_slice(&cell);
 }
 
-// Puts the next cell, on a line of its own if the line is full.
-fn put_cell(c: Cell, out: &mut [u8], at: usize, room: usize) -> Spot
-    requires { (at + 5 ≤ length out.old) × (room ≤ cells_in_line) }
-    ensures { PutsCell c out.old at room out.new result.at result.room }
+// Puts the next cell, that of the byte b, on a line of its own if the line is full.
+fn put_cell(b: u8, out: &mut [u8], spot: Spot) -> Spot
+    requires { (spot.at + 5 ≤ length out.old) × (spot.room ≤ cells_in_line) }
+    ensures { PutsCell (cell_of b) out.old spot.at spot.room out.new result.at result.room }
 {
-    if room == 0 {
-        out[at] = LINE_FEED;
-        put_columns(c, out, at + 1);
+    if spot.room == 0 {
+        out[spot.at] = LINE_FEED;
+        put_columns(b, out, spot.at + 1);
         return Spot {
-            at: at + 5,
+            at: spot.at + 5,
             room: CELLS_IN_LINE - 1,
         };
     }
-    put_columns(c, out, at);
+    put_columns(b, out, spot.at);
     Spot {
-        at: at + 4,
-        room: room - 1,
+        at: spot.at + 4,
+        room: spot.room - 1,
     }
 }
 
-// Ends the last line, which has room for so many cells.
-fn fill_line(out: &mut [u8], at: usize, room: usize)
-    requires { at + length (filled room) ≤ length out.old }
-    ensures { (out.new ≡ sets out.old at (filled room)) × (length out.new ≡ length out.old) }
+// Ends the last line.
+fn fill_line(out: &mut [u8], spot: Spot)
+    requires { spot.at + length (filled spot.room) ≤ length out.old }
+    ensures { (out.new ≡ sets out.old spot.at (filled spot.room)) × (length out.new ≡ length out.old) }
 {
-    let mut i = at;
-    let mut n = room;
-    while n > 0 {
-        put_columns(letter_cell(b' '), out, i);
-        i += 4;
-        n -= 1;
-    }
-    out[i] = LINE_FEED;
+    let end = spot.at + 4 * spot.room;
+    out[spot.at..end].fill(b' ');
+    out[end] = LINE_FEED;
 }
 
 // The page of the bytes s, which there is room for.
@@ -148,16 +122,14 @@ pub fn write_page(s: &[u8], out: &mut [u8])
     requires { length (lines cells_in_line (cells_of s.now)) ≤ length out.old }
     ensures { (out.new ≡ sets out.old 0 (lines cells_in_line (cells_of s.now))) × (length out.new ≡ length out.old) }
 {
-    let mut at: usize = 0;
-    let mut room = CELLS_IN_LINE;
-    let mut i: usize = 0;
-    while i < s.len() {
-        let spot = put_cell(cell_of(s[i]), out, at, room);
-        at = spot.at;
-        room = spot.room;
-        i += 1;
+    let mut spot = Spot {
+        at: 0,
+        room: CELLS_IN_LINE,
+    };
+    for &b in s {
+        spot = put_cell(b, out, spot);
     }
-    fill_line(out, at, room);
+    fill_line(out, spot);
 }
 
 // A line that has a mark below one cell of the line before it.
@@ -165,7 +137,11 @@ pub fn write_mark(cell: usize, out: &mut [u8])
     requires { (cell < cells_in_line) × (line_length ≤ length out.old) }
     ensures { (out.new ≡ set (sets out.old 0 (filled cells_in_line)) (4 * cell + 3) mark) × (length out.new ≡ length out.old) }
 {
-    fill_line(out, 0, CELLS_IN_LINE);
+    let line = Spot {
+        at: 0,
+        room: CELLS_IN_LINE,
+    };
+    fill_line(out, line);
     out[4 * cell + 3] = MARK;
 }
 

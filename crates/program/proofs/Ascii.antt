@@ -12,8 +12,7 @@ use Rattle.std.specs.Str.{IsAscii, IsUtf8}
 use Rattle.std.proofs.lemmas.Str.{IsAscii-take, IsUtf8-from_ascii}
 use Rattle.std.proofs.lemmas.Str.Ascii.{IsAscii-nil, IsAscii-cons, IsAscii-set}
 use Rattle.code.specs.Code.{Symbol, symbol, symbol_tau, symbol_var, symbol_app, symbol_abs}
-use Rattle.printing.specs.declared.Cell.{Cell}
-use Rattle.printing.specs.Page.{blank, digit_zero, letter_cell, digit, index_cell, cells_in_line, columns, filled, lines}
+use Rattle.printing.specs.Page.{Cell, blank, digit_zero, letter_cell, digit, index_cell, cells_in_line, columns, filled, lines}
 use Rattle.printing.specs.Clauses.{mark, cell_of_symbol, cell_of, cells_of}
 use Rattle.printing.proofs.Lines.{lines_full, lines_room}
 

@@ -9,9 +9,8 @@ use lib.Seq.{length-sets}
 use Rattle.code.specs.Limits.{longest_term}
 use Rattle.code.specs.Code.{Bytes, encode}
 use Rattle.code.proofs.RoundTrip.{length_encode}
-use Rattle.explaining.specs.Explain.{Explanation, explain_file}
+use Rattle.explaining.specs.Explain.{Explanation, explain_file, cause_number, explained_says}
 use Rattle.std.proofs.Common.{Err}
-use Rattle.explaining.specs.Clauses.{cause_number, explained_says}
 use Rattle.explaining.specs.Claims.{BodiesTold}
 use Rattle.explaining.specs.declared.Cause.TheVariants.{BodiesDiffer}
 use Rattle.explaining.specs.declared.Explained.{Explained}

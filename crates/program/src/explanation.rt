@@ -27,6 +27,8 @@ const OF_TERM: &str = "of the term ";
 
 pub type Text = ArrayString<LONGEST_EXPLANATION>;
 
+// Kept: no Display, for streams::push_number's reason: `Added` says that all of it is there. HasRoom and Added are facts of a text that
+// grows, and of no type.
 // A number, and the words for one or for any other number.
 fn push_count(text: &mut Text, n: usize, one: &str, other: &str)
     requires shorter { length one.now ≤ length other.now }

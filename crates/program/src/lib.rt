@@ -77,6 +77,7 @@ fn status<R: Eprint>(rt: &R, program: &str, ended: Result<(), Failure>) -> ExitC
     ExitCode::from(2)
 }
 
+// Kept: numbers, since these are what is printed.
 // Puts number, place, comparisons and degree into a line, in decimal, one space between, then a line feed.
 fn push_answer<const N: usize>(
     line: &mut ArrayString<N>,

@@ -17,8 +17,8 @@ use Rattle.code.proofs.Refusals.{refusal_number}
 use Rattle.checker.specs.Answer.{CheckAnswer, check_says, CheckedAs}
 use Rattle.checker.specs.declared.Checked.{Checked}
 use Rattle.checker.specs.declared.Refused.{Refused}
-use Rattle.sets.specs.Sets.{longest_set, or_not_a_set, file_end, files_from, read_set, refused_set, accepted_set, check_files, check_from, check_set}
-use Rattle.sets.specs.Clauses.{set_says, heads_of, WholeFrom}
+use Rattle.sets.specs.Sets.{longest_set, or_not_a_set, file_end, files_from, read_set, refused_set, accepted_set, check_files, check_from, check_set, set_says}
+use Rattle.sets.specs.Clauses.{heads_of, WholeFrom}
 use Rattle.sets.proofs.Heads.{end_not_fault, file_found, file_ended, files_found, files_are, body_length}
 
 -- THE HEADS

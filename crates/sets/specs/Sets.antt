@@ -1,10 +1,14 @@
 -- Checking a set of files (document 02, (e)). A set is a run of fields with tag 5, each holding a whole file.
 -- Assumes nothing.
-use Rattle.std.specs.Prelude.{ℕ, ◌+◌, cond, List, [], ◌∷◌, length, ltb, eqb}
-use Rattle.code.specs.Refusals.{accepted, too_long, not_a_set}
+use Rattle.std.specs.Prelude.{ℕ, Result, Ok, Err, ◌+◌, cond, List, [], ◌∷◌, length, ltb, eqb}
+use Rattle.code.specs.Refusals.{accepted, too_long, not_a_set, number_of}
+use Rattle.code.specs.declared.refusal.Refusal.{Refusal}
 use Rattle.fields.specs.Fields.{Field, Fault, End}
 use Rattle.fields.specs.Fields.{field_at, body_at, Sequence, broken, sequence, sequence_from}
 use Rattle.files.specs.Check.{CheckAnswer, check_file}
+use Rattle.checker.specs.Answer.{before_walk}
+use Rattle.sets.specs.declared.SetChecked.{SetChecked}
+use Rattle.sets.specs.declared.SetRefused.{SetRefused}
 
 -- The refused file's number, from 0, with its own number, place, comparisons and degree; or how many files, 0, 0, the comparisons in all, 0.
 pub record SetAnswer : Type 0 where
@@ -66,3 +70,12 @@ check_from i c (sequence fs) = check_files i c fs
 unfoldable pub check_set : List ℕ → SetAnswer
 unfolding read_set check_files check_from
 check_set s = check_from 0 0 (read_set s)
+
+-- The five numbers, for each case of the code's answer.
+abbrev pub set_says : Result SetChecked SetRefused → SetAnswer
+set_says (Ok c) = accepted_set c.files c.comparisons
+set_says (Err r) = let x = r.refused in record { file = r.file; number = number_of x.refusal.condition; place = x.refusal.place; comparisons = x.comparisons; degree = x.degree }
+
+-- The set's own refusal.
+abbrev pub own_refusal : Refusal → SetRefused
+own_refusal r = record { file = 0; refused = before_walk r }

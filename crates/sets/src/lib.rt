@@ -2,8 +2,8 @@
 #![tactic(auto)]
 
 ghost use Rattle.std.specs.Prelude.{◌≡◌, length};
-ghost use Rattle.sets.specs.Sets.{files_from, read_set, check_from};
-ghost use Rattle.sets.specs.Clauses.{set_says, own_refusal, heads_say, heads_of, WholeFrom};
+ghost use Rattle.sets.specs.Sets.{files_from, read_set, check_from, set_says, own_refusal};
+ghost use Rattle.sets.specs.Clauses.{heads_say, heads_of, WholeFrom};
 ghost use Rattle.sets.specs.Claims.{AcceptedSets, SetChecked as CheckedSet};
 
 use checker::Refused;

@@ -11,8 +11,8 @@ ghost use Rattle.waiting.specs.Writing.{Moved, Raised, Copied, PutAsked, Puts};
 use code::numbers::LONGEST_STATE;
 use frames::Work;
 
-// Kept: the list is of numbers and not of these, since with fields of 16 bits each of the walk's uses would convert what slot_at and
-// store_slot convert in one place, and with fields of 64 the lists would take four times the stack.
+// Kept: six numbers, not a struct of 16 bits: it would repeat Slot's six fields, and its two From are slot_at and store_slot, of whose
+// `slot_of` specs/Waiting.antt speaks.
 // A waiting applicator: its place in the term or, for a copy, in the text that it is a copy of; where its bytes stand in the work array;
 // the frame's depth when it was met; the lift that its K is seen through; and the scope of what waited before it.
 #[derive(Clone, Copy)]
@@ -54,6 +54,7 @@ pub fn store_slot(list: &mut [u16], j: usize, v: Slot)
     requires { (6 * j + 6 ≤ length list.old) × SmallSlot v }
     ensures { Noted list.old list.new j v }
 {
+    // Kept: `as` here and in the lifts, since Rust has no From here; the clauses bound each number.
     list[6 * j] = v.place as u16;
     list[6 * j + 1] = v.at as u16;
     list[6 * j + 2] = v.depth as u16;
@@ -62,6 +63,7 @@ pub fn store_slot(list: &mut [u16], j: usize, v: Slot)
     list[6 * j + 5] = v.scope as u16;
 }
 
+// Kept: a function of its own: `walk::put_aside` copies by it too, and the edit first_byte_repeated names it.
 // n bytes of t from p on.
 pub fn copy_from(t: &[u8], p: usize, n: usize, work: &mut Work, to: usize)
     requires { (p + n ≤ length t.now) × (to + n ≤ longest_state) }
@@ -70,6 +72,7 @@ pub fn copy_from(t: &[u8], p: usize, n: usize, work: &mut Work, to: usize)
     work[to..to + n].copy_from_slice(&t[p..p + n]);
 }
 
+// Kept: apart from letters::lifted_index, with `raised`: in bytes and without a branch, so that a loop does several at once.
 // The index that a byte is: 0, which no lift raises, for an applicator or an abstractor.
 fn index_of(b: u8) -> u8
     ensures { (b < 254 → result ≡ b) × (254 ≤ b → result ≡ 0) }
@@ -99,6 +102,7 @@ fn lifted_byte(b: u8, n: usize, c: usize) -> u8
 }
 
 // The term that stands in work from `from` up to `to`, a copy of one whose depths stand from o on, is lifted by n above c.
+#[inline(never)]
 fn lift_copy(work: &mut Work, from: usize, to: usize, depths: &[u8], o: usize, n: usize, c: usize)
     requires { (n < 256) × (c < 256) × Copied work.old depths.now from to o n c }
     ensures { Replaced (lift n c) work.old work.new from to }
@@ -121,6 +125,7 @@ fn byte_in(t: &[u8], work: &Work, in_term: bool, p: usize) -> u8
 }
 
 // n bytes from p on, of the term or of the work array.
+#[inline(never)]
 fn copy(t: &[u8], work: &mut Work, in_term: bool, p: usize, n: usize, to: usize)
     requires { (p + n ≤ length (cond in_term t.now work.old)) × (to + n ≤ longest_state) }
     ensures { Moved (cond in_term t.now work.old) work.old work.new p n to }

@@ -158,6 +158,7 @@ fn push_entry(f: &mut FrameRecord, end: usize)
     requires { (f.old.end < 65536) × (f.old.len < most_abstractors) }
     ensures { f.new ≡ pushed f.old end }
 {
+    // Kept: `as` here and in `enter_domain`, since Rust has no From here; the clauses bound each number.
     f.starts[f.len] = f.end as u16;
     f.len += 1;
     f.end = end;
@@ -367,6 +368,7 @@ fn wait(
     }
 }
 
+// Kept: a function of its own, since the edit inner_frame_forgotten names it.
 // A frame is written up to e.
 fn stretch(reach: &mut usize, e: usize)
     ensures { reach.new ≡ max reach.old e }
@@ -375,6 +377,7 @@ fn stretch(reach: &mut usize, e: usize)
 }
 
 // U, which has n bytes and stands behind the first byte of B, is written to `to`, and noted.
+#[inline(always)]
 fn enter_domain(
     text: &Measured,
     memory: &mut Memory,
@@ -406,6 +409,7 @@ fn enter_domain(
     e
 }
 
+// Kept: what these ask of five values that change apart is said once, as `AbstractorAt`, and no one of them could carry it.
 // [U], whose U has n bytes, while nothing waits: (iv) and (x).
 fn enter_alone(
     text: &Measured,
@@ -426,6 +430,7 @@ fn enter_alone(
     }
 }
 
+// Kept: a function of its own, since the edit overwritten_taken names it.
 // Whether a frame was written past `at`.
 fn is_lost(at: usize, reach: usize) -> bool
     ensures { result ≡ false → reach ≤ at }
@@ -679,6 +684,7 @@ fn term(
         next,
         comparisons,
     };
+    // Kept: no count: a turn's answer ends it, and a falling number bounds it (document 01).
     loop {
         match turn(text, memory, list, &f, z) {
             Turned::Answer(answer) => return answer,

@@ -1,23 +1,25 @@
 -- `printing::fill_line` meets its contract.
 -- Assumes nothing.
+use mathlib.Core.Path.{refl}
 use native.Mathlib.Omega.{arith}
-use Rattle.printing.proofs.Writing.{onward_here, room_for_blanks, fill_next, fill_end}
+use Rattle.std.proofs.Common.{length-append, length-take, length-drop}
+use Rattle.printing.proofs.Lines.{length_filled}
+use Rattle.printing.proofs.Writing.{line_filled}
 use Rattle.printing.proofs.fill_line.Goals as goal
 
-pub loop-n-init : goal.loop-n-init
-loop-n-init c = record { onward = onward_here _ _ _ }
+pub overflow_mul-end : goal.overflow_mul-end
+overflow_mul-end c = omega (arith, length_filled c.args.spot.room)
 
-pub put_columns-requires : goal.put_columns-requires
-put_columns-requires c = omega (arith, room_for_blanks c.loop-n.invariant c.requires)
+pub overflow_add-end : goal.overflow_add-end
+overflow_add-end c = omega (arith, length_filled c.args.spot.room)
 
-pub loop-n-preserved : goal.loop-n-preserved
-loop-n-preserved c = fill_next c.loop-n.invariant (λ z. omega arith) c.letter_cell.ensures c.put_columns.ensures.0 c.put_columns.ensures.1
+pub slice_bounds-fill-end : goal.slice_bounds-fill-end
+slice_bounds-fill-end c = grind (arith, length_filled c.args.spot.room)
 
-pub bounds-out-i : goal.bounds-out-i
-bounds-out-i c = omega (arith, room_for_blanks c.loop-n.invariant c.requires)
-
-pub shape_of-out : goal.shape_of-out
-shape_of-out c = (fill_end c.loop-n.invariant (omega arith)).1
+pub bounds-out-end : goal.bounds-out-end
+bounds-out-end c = simp (length-append, length-take, length-drop) (omega (arith, c.fill.ensures.len, length_filled c.args.spot.room))
 
 pub returns : goal.returns
-returns c = fill_end c.loop-n.invariant (omega arith)
+returns c =
+    line_filled _ _ c.args.spot.room c.requires refl refl
+    (simp (length-take, length-drop) (omega (arith, length_filled c.args.spot.room))) (c.fill.ensures.after (λ y e. e))
