@@ -186,6 +186,7 @@ pub fn lifted_letter(x: u32, c: u32, k: u32, h: u32, low: u32) -> u32
     y
 }
 
+// Kept: `as` here and in `write_source`, since Rust has no From here; passes over letters are in 32 bits (steps::couple_at).
 // The letters of a term, the first of which has depth c, go lifted by k to `out`, where the first has height h.
 pub fn lift_to(term: &[u32], c: u32, k: u32, h: u32, out: &mut [u32])
     requires { LettersLiftable term.now c k h × (length out.old ≡ length term.now) }
@@ -210,6 +211,7 @@ pub fn deepest(term: &[u32]) -> u32
 }
 
 // ---- A term in a variable's place.
+// Kept: a bool, as letters::read.
 // The term that x says, lifted, goes to p, its first letter at depth d and height h. Not, if more than `room` of its abstractors are in
 // scope anywhere.
 fn write_source(

@@ -46,6 +46,7 @@ pub fn delta_of(deltas: &Deltas, b: u8) -> i32
     deltas[usize::from(b)]
 }
 
+// Kept: apart from `term_end`, since docs/DECISIONS.md (forms that document 01 binds) names it, and its promise stays.
 // Where the term of s that starts at `from` ends: the balance starts at +1 and the term ends where it first reaches 0. None, where the bytes
 // end before the term does or it starts past them.
 pub fn term_end_by(deltas: &Deltas, s: &[u8], from: usize) -> Option<usize>

@@ -94,6 +94,7 @@ impl From<Ground> for Condition {
     }
 }
 
+// Kept: a bool, as letters::read.
 // The term that stands in the work array, as letters in `body`, if it is within the limits after a frame of len entries.
 fn load(work: &Work, from: usize, to: usize, len: usize, body: &mut Letters) -> bool
     requires { Loadable work.now body.old len from to }

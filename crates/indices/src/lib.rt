@@ -11,6 +11,7 @@ pub struct Parts {
     pub count: usize,
 }
 
+// Kept: `as`, since Rust has no From here; the clause keeps scope + 1 below 65,536.
 // How many abstractors are in scope at the second part of an applicator or an abstractor.
 #[tactic(auto, unfolding(crate::specs::Stack::body_scope))]
 fn body_scope(b: u8, scope: usize) -> u16

@@ -24,6 +24,7 @@ pub const ABSTRACTOR: usize = 1023;
 // One of height in a letter.
 const HEIGHT: usize = 1048576;
 
+// Kept: `as` here and below, since Rust has no From between u32 and usize; the clause keeps a letter below 2^32.
 #[tactic(auto, unfolding(crate::specs::Letters::letter))]
 pub fn letter_of(symbol: usize, depth: usize, height: usize) -> u32
     requires { (symbol < 1024) × (depth < 1024) × (height < 4096) }
@@ -38,6 +39,7 @@ pub fn wide(x: u32) -> usize
     x as usize
 }
 
+// Kept: `< 1024` is said of each and is no type, which every pass over letters would wrap and unwrap.
 pub fn symbol_of(x: u32) -> usize
     ensures { (result ≡ symbol_of x) × (result < 1024) }
 {
@@ -156,6 +158,7 @@ fn read_scoped(
     read_with(s, k, d, h, room, out, at, &mut stack[..])
 }
 
+// Kept: a bool, since there is one ground to fail for, and each caller has its own word for it, or cannot meet it.
 // The term that s holds, lifted by k, as letters from `at` on: its first at depth d and height h. Not, if
 // more than `room` of its abstractors are in scope anywhere.
 pub fn read(
@@ -190,6 +193,7 @@ pub fn write(s: &Letters, n: usize, out: &mut [u8])
     ensures { Writes s.now n out.old out.new }
 {
     for i in 0..n {
+        // Kept: `as`, since Rust has no From here; a remainder by 256 is a byte.
         out[i] = (s[i] % 256) as u8;
     }
 }

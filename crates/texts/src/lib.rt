@@ -48,6 +48,7 @@ fn note_depths(letters: &Letters, n: usize, depths: &mut [u8])
     requires { Notable letters.now depths.old n }
     ensures { DepthsNoted letters.now depths.old depths.new n }
 {
+    // Kept: `as` here and in `measure`, since Rust has no From here; a depth is at most 253, a size and a scope at most 4,096.
     for i in 0..n {
         depths[i] = depth_of(letters[i]) as u8;
     }
