@@ -68,6 +68,7 @@ pub extern "C" fn bijterne_write_type(s: &[u8], out: &mut [u8], answer: &mut [u6
 #[unsafe(no_mangle)]
 pub extern "C" fn bijterne_apply_step(
     s: &[u8],
+    // Kept: a number, as C hands it over.
     kind: u8,
     place: u16,
     out: &mut [u8],
