@@ -4,7 +4,6 @@
 ghost use Rattle.std.specs.Prelude.{◌+◌, ◌-◌, ◌≤◌, length};
 ghost use Rattle.parts.specs.Parts.{Copied};
 
-// Kept: nothing here calls it now, but its promise and the edit first_byte_everywhere stay.
 // The bytes of src from `from` up to `to` go to dst from `at` on.
 pub fn copy_part(src: &[u8], from: usize, to: usize, dst: &mut [u8], at: usize)
     requires { (from ≤ to) × ((to ≤ length src.now) × (at + (to - from) ≤ length dst.old)) }

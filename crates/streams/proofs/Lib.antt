@@ -1,4 +1,5 @@
 -- The laws of this crate.
 -- Assumes nothing.
+pub mod Counting
 pub mod Reading
 mod Writing

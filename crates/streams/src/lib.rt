@@ -7,7 +7,7 @@ ghost use Rattle.std.specs.Io.{ReadsAtMost};
 ghost use Rattle.std.specs.Io.KnownBytes.{Appends, Consumes, IsAtEnd};
 ghost use Rattle.std.specs.Str.Pattern.{HasTextAt, LacksTextAt};
 ghost use Rattle.arrayvec.specs.ArrayString.{array_string_len};
-ghost use Rattle.streams.specs.Clauses.{number_room};
+ghost use Rattle.streams.specs.Clauses.{number_room, Added};
 
 use arrayvec::ArrayString;
 use itoa::Integer;
@@ -92,6 +92,27 @@ pub fn words(message: &str) -> &str
         Some((words, _number)) => words,
         None => message,
     }
+}
+
+// Puts a text into a longer one, from `at` on: where it ends.
+// Kept, beside the texts that know their length: any bytes can be put anywhere, as in no `ArrayString`.
+pub fn add_text(line: &mut [u8], at: usize, text: &[u8]) -> usize
+    requires { at + length text.now ≤ length line.old }
+    ensures { Added at (length text.now) line.old result line.new }
+{
+    parts::copy_part(text, 0, text.len(), line, at);
+    at + text.len()
+}
+
+// Puts n in decimal and a byte after it, whatever it is, into a text, from `at` on: where they end.
+pub fn add_number(line: &mut [u8], at: usize, n: u64, after: u8) -> usize
+    requires { at + number_room 20 ≤ length line.old }
+    ensures { Added at (number_room 20) line.old result line.new }
+{
+    let mut digits = itoa::Buffer::new();
+    let end = add_text(line, at, digits.format(n).as_bytes());
+    line[end] = after;
+    end + 1
 }
 
 // Puts n in decimal at the end of a text, and one more byte.
