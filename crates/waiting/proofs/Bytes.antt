@@ -10,14 +10,14 @@ use native.Mathlib.Numerals.{add-one}
 use lib.ListN.{length, get_or, set, take, drop, length-set, length-take, length-drop, take-append-drop}
 use lib.Seq.{get_or-set_same, get_or-set_other, set-set, ext_get_or, get_or-take, get_or-drop}
 use Rattle.calculus.specs.Terms.{Term, lift, lift_index}
-use Rattle.calculus.proofs.Lift.{size_lift}
+use Rattle.calculus.proofs.Lift.{lo, hi, cmp, size_lift}
 use Rattle.code.specs.Limits.{longest_state}
 use Rattle.code.specs.Code.{encode}
 use Rattle.code.specs.Claims.{Stands}
 use Rattle.code.proofs.RoundTrip.{length_encode}
 use Rattle.code.proofs.Parts.{stands_start, stands_end, stands_taken, stands_unique}
 use Rattle.frames.specs.Stored.{Agree}
-use Rattle.frames.proofs.Entries.{agree_part, agree_trans, agree_set, agree_take}
+use Rattle.frames.proofs.Entries.{agree_refl, agree_part, agree_trans, agree_set, agree_take}
 use Rattle.parts.proofs.Stores.{drop_sets}
 use Rattle.indices.specs.Passes.{Replaced}
 use Rattle.indices.proofs.Replace.{lifted_stands, before_same}
@@ -30,6 +30,20 @@ use Rattle.waiting.proofs.Copies.{one_index, one_lifted}
 -- a store below what is looked at
 agree_below : (w : List ℕ) {p e : ℕ} (i b : ℕ) → i < p → Agree w (set w i b) p e
 agree_below w i b h = record { same = λ j f g. get_or-set_other w i j b 0 (λ z. omega arith) }
+
+pub moved_none : (s w : List ℕ) (p to : ℕ) → Moved s w w p 0 to
+moved_none s w p to = record { same_length = refl; below = agree_refl; above = agree_refl; same = λ i h. absurd (omega arith) }
+
+pub moved_more : {s w w' : List ℕ} {p i to : ℕ} (v : ℕ) → to + i < length w → v ≡ get_or s (p + i) 0 → Moved s w w' p i to → Moved s w (set w' (to + i) v) p (i + 1) to
+moved_more {s} {w} {w'} {p} {i} {to} v h e m = record {
+  same_length = length-set w' (to + i) v ∙ m.same_length;
+  below = agree_trans m.below (agree_set w' (to + i) v (omega arith));
+  above = agree_trans (agree_part m.above (omega arith) (omega arith)) (agree_below w' (to + i) v (omega arith));
+  same = λ j g. elim (cmp i j) [
+    | lo a ↦ let q : j ≡ i = omega arith in rw q (get_or-set_same w' (to + i) v 0 (omega (arith, m.same_length)) ∙ e)
+    | hi a ↦ get_or-set_other w' (to + i) (to + j) v 0 (λ z. omega arith) ∙ m.same j a
+  ];
+}
 
 -- A term stands where its bytes stand.
 pub stands_same : {s w : List ℕ} {p e to : ℕ} {K : Term} → ((i : ℕ) → i < e - p → get_or w (to + i) 0 ≡ get_or s (p + i) 0) → to + (e - p) ≤ length w → Stands s p e K → Stands w to (to + (e - p)) K
@@ -149,6 +163,9 @@ module _ (mark : ℕ) {p e n c k to : ℕ} {s w : List ℕ} (x : Writable s w p 
 
 -- ---- Old and new place apart.
 module _ {p e to : ℕ} (l : p ≤ e) where
+  pub apart_copy : (e ≤ to) ⊎ (to + 1 + (e - p) ≤ p) → (p + (e - p) ≤ to + 1) ⊎ (to + 1 + (e - p) ≤ p)
+  apart_copy = ⊎_elim (λ a. inl (omega arith)) (λ a. inr a)
+
   pub apart_mark : (e ≤ to) ⊎ (to + 1 + (e - p) ≤ p) → (p + (e - p) ≤ to) ⊎ (to < p)
   apart_mark = ⊎_elim (λ a. inl (omega arith)) (λ a. inr (omega arith))
 

@@ -63,13 +63,16 @@ pub fn store_slot(list: &mut [u16], j: usize, v: Slot)
     list[6 * j + 5] = v.scope as u16;
 }
 
-// Kept: a function of its own: `walk::put_aside` copies by it too, and the edit first_byte_repeated names it.
+// Kept: a function of its own: `walk::put_aside` copies by it too, and the edit first_byte_repeated names it. And no `copy_from_slice`, nor
+// `copy_within` in `copy_in`: by these the library for C would need `memmove` from outside.
 // n bytes of t from p on.
 pub fn copy_from(t: &[u8], p: usize, n: usize, work: &mut Work, to: usize)
     requires { (p + n ≤ length t.now) × (to + n ≤ longest_state) }
     ensures { Moved t.now work.old work.new p n to }
 {
-    work[to..to + n].copy_from_slice(&t[p..p + n]);
+    for i in 0..n {
+        work[to + i] = t[p + i];
+    }
 }
 
 // Kept: apart from letters::lifted_index, with `raised`: in bytes and without a branch, so that a loop does several at once.
@@ -102,7 +105,6 @@ fn lifted_byte(b: u8, n: usize, c: usize) -> u8
 }
 
 // The term that stands in work from `from` up to `to`, a copy of one whose depths stand from o on, is lifted by n above c.
-#[inline(never)]
 fn lift_copy(work: &mut Work, from: usize, to: usize, depths: &[u8], o: usize, n: usize, c: usize)
     requires { (n < 256) × (c < 256) × Copied work.old depths.now from to o n c }
     ensures { Replaced (lift n c) work.old work.new from to }
@@ -124,16 +126,26 @@ fn byte_in(t: &[u8], work: &Work, in_term: bool, p: usize) -> u8
     if in_term { t[p] } else { work[p] }
 }
 
+// n bytes of the work array from p on, where they do not stand already.
+fn copy_in(work: &mut Work, p: usize, n: usize, to: usize)
+    requires { ((p + n ≤ to) ⊎ (to + n ≤ p)) × (p + n ≤ longest_state) × (to + n ≤ longest_state) }
+    ensures { Moved work.old work.old work.new p n to }
+{
+    for i in 0..n {
+        work[to + i] = work[p + i];
+    }
+}
+
 // n bytes from p on, of the term or of the work array.
 #[inline(never)]
 fn copy(t: &[u8], work: &mut Work, in_term: bool, p: usize, n: usize, to: usize)
-    requires { (p + n ≤ length (cond in_term t.now work.old)) × (to + n ≤ longest_state) }
+    requires { (in_term ≡ false → (p + n ≤ to) ⊎ (to + n ≤ p)) × (p + n ≤ length (cond in_term t.now work.old)) × (to + n ≤ longest_state) }
     ensures { Moved (cond in_term t.now work.old) work.old work.new p n to }
 {
     if in_term {
         copy_from(t, p, n, work, to);
     } else {
-        work.copy_within(p..p + n, to);
+        copy_in(work, p, n, to);
     }
 }
 
