@@ -95,7 +95,7 @@ pub fn words(message: &str) -> &str
 }
 
 // Puts a text into a longer one, from `at` on: where it ends.
-// Kept, beside the texts that know their length: any bytes can be put anywhere, as in no `ArrayString`.
+// Kept: beside the texts that know their length, since here any bytes can be put anywhere, as in no `ArrayString`.
 pub fn add_text(line: &mut [u8], at: usize, text: &[u8]) -> usize
     requires { at + length text.now ≤ length line.old }
     ensures { Added at (length text.now) line.old result line.new }
